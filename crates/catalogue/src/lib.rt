@@ -1,0 +1,2 @@
+// The ground of the catalogue: what every call may refuse with.
+pub mod refusal;
