@@ -1,2 +1,6 @@
-// The ground of the catalogue: what every call may refuse with.
+// The ground of the catalogue: rows and their places, stores and replicas, kinds of row, and what a call may refuse with.
+pub mod kind;
 pub mod refusal;
+pub mod replicas;
+pub mod row;
+pub mod store;

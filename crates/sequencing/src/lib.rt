@@ -1,4 +1,5 @@
-// Versions: which number each transaction is assigned at each table.
+// What a transaction declares and calls for, and which number it is assigned at each table.
+pub mod call;
 pub mod mode;
 pub mod sequencer;
 pub mod trace;
