@@ -42,6 +42,11 @@ abbrev pub told : {T : Type 0} → Result T Refusal → ℕ × Option T
 told (Ok x) = (0, Some x)
 told (Err r) = (number r, None)
 
+-- The same, of what is seen of the value.
+abbrev pub told-as : {T U : Type 0} → (T → U) → Result T Refusal → ℕ × Option U
+told-as seen (Ok x) = (0, Some (seen x))
+told-as seen (Err r) = (number r, None)
+
 -- The checks of a call, in their order: the number of the first whose test holds, 0 where none does.
 abbrev pub first : List (Bool × Refusal) → ℕ
 first [] = 0

@@ -1,5 +1,6 @@
 -- The catalogue's 512 rows, and what a store answers and holds after.
-use Prim.Native.Nat.{ℕ, _+_, _*_}
+use Prim.Native.Nat.{ℕ, _+_, _*_, _<_}
+use mathlib.Core.Path.{_≡_}
 use mathlib.Core.Bool.{Bool, cond, not}
 use mathlib.Core.List.{List, [], _∷_}
 use lib.Dec.{eqb, ltb}
@@ -16,6 +17,13 @@ blank = record { high = 0; low = 0 }
 -- Where row r of table t stands in a catalogue: eight tables of 64 rows, one after the other.
 abbrev pub place : ℕ → ℕ → ℕ
 place t r = t * 64 + r
+
+-- A place that row r of table t has.
+pub record Placed (t r place : ℕ) : Type 0 where
+  pub table : t < 8
+  pub row : r < 64
+  pub is : place ≡ t * 64 + r
+  pub within : place < 512
 
 -- A table above 7 is refused, then a row number above 63.
 abbrev pub place-checks : ℕ → ℕ → List (Bool × Refusal)

@@ -1,8 +1,7 @@
 ghost use mathlib.Core.Path.{_≡_};
-ghost use Prim.Native.Nat.{_<_};
 ghost use Rattle.std.specs.Vec.{made};
 ghost use Rattle.catalogue.specs.Refusals.{told};
-ghost use Rattle.catalogue.specs.Rows.{place-reply};
+ghost use Rattle.catalogue.specs.Rows.{Placed, place-reply};
 use crate::refusal::Refusal;
 
 pub const TABLES: u32 = 8;
@@ -18,7 +17,7 @@ pub struct Row {
 // Where the row of the table stands among the 512.
 pub fn place_of(table: u32, row: u32) -> Result<u32, Refusal>
     ensures answer { λ r. ⌜ told r ≡ place-reply table row ⌝ }
-    ensures within { λ r. ⌜ made r (λ place. place < 512) ⌝ }
+    ensures found { λ r. ⌜ made r (λ place. Placed table row place) ⌝ }
 {
     if table >= TABLES {
         return Err(Refusal::TableOutOfRange);

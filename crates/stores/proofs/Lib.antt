@@ -1,0 +1,4 @@
+mod Laid
+pub mod Overlay
+mod Permuted
+mod Renumbered
