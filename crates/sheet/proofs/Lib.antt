@@ -1,0 +1,6 @@
+mod Cut
+mod Digits
+mod Known
+mod Lined
+mod Stood
+mod Entered
