@@ -100,6 +100,58 @@ abbrev pub least : (ℕ → Bool) → (ℕ → ℕ) → ℕ → Option ℕ
 least fits load zero = None
 least fits load (suc j) = better fits load j (least fits load j)
 
+-- The checks that calls make of a transaction, by its course, each by what it asks for: that it is open, that it declares the table t, and that it has not asked the release of it.
+module _ (c : Course) where
+  abbrev pub still-open : Bool × Refusal
+  still-open = (ended (c .asked), Refusal.NotOpen)
+
+  abbrev pub declared : ℕ → Bool × Refusal
+  declared t = (not (declares (mode c t)), Refusal.NotDeclared)
+
+  abbrev pub unreleased : ℕ → Bool × Refusal
+  unreleased t = (released t (c .asked), Refusal.AlreadyReleased)
+
+  -- It is past recall once it asked the release of a table that it declares for writing.
+  abbrev pub past-recall : Bool
+  past-recall = some-below 8 (λ t. writes (mode c t) && released t (c .asked))
+
+  -- A write to row r of table t at the cost of the class; a read there; a release of the table; a commit; an abort.
+  abbrev pub may-write : ℕ → ℕ → ℕ → List (Bool × Refusal)
+  may-write t r class =
+      still-open
+      ∷ (place-checks t r
+      ++ ((not (ltb class 8), Refusal.ClassOutOfRange)
+      ∷ (not (writes (mode c t)), Refusal.NotDeclared)
+      ∷ unreleased t
+      ∷ (not (ltb (count-writes (c .asked)) 16), Refusal.TooManyWrites)
+      ∷ []))
+
+  abbrev pub may-read : ℕ → ℕ → List (Bool × Refusal)
+  may-read t r = still-open ∷ (place-checks t r ++ (declared t ∷ unreleased t ∷ []))
+
+  abbrev pub may-release : ℕ → List (Bool × Refusal)
+  may-release t = still-open ∷ (not (ltb t 8), Refusal.TableOutOfRange) ∷ declared t ∷ unreleased t ∷ []
+
+  abbrev pub may-commit : List (Bool × Refusal)
+  may-commit = still-open ∷ []
+
+  abbrev pub may-abort : List (Bool × Refusal)
+  may-abort = still-open ∷ (past-recall, Refusal.PastRecall) ∷ []
+
+-- A transaction's next operation is held back at the replica j, where the tables have these versions: a table of it does not admit it.
+abbrev pub held-at : Transaction → ℕ → List ℕ → Bool
+held-at x j versions =
+    some-below 8 (λ t. has-table (x .course) (done (x .course) j) (next (x .course) j) t && not (admits (getD (x .assigned) t Assigned.None) (getD versions t 0)))
+
+-- The replica j can answer its read of the table t: it admits it, and where the table is declared for writing, no write of it to the table waits there.
+abbrev pub qualifies-at : Transaction → ℕ → ℕ → List ℕ → Bool
+qualifies-at x t j versions =
+    admits (getD (x .assigned) t Assigned.None) (getD versions t 0) && not (writes (mode (x .course) t) && some (is-write-at t) (waiting (x .course) j))
+
+-- What a transaction still costs at the replica j: the sum of the costs of its operations that wait there.
+abbrev pub cost-left : Transaction → ℕ → ℕ
+cost-left x j = sumBy cost (waiting (x .course) j)
+
 module _ (s : State) where
   -- The replica j, and the version of the table t there.
   abbrev pub replica : ℕ → Replica
@@ -120,34 +172,23 @@ module _ (s : State) where
 
   -- The load of the replica j: the sum of the costs of the operations that wait there.
   abbrev pub load : ℕ → ℕ
-  load j = sumBy (λ x. sumBy cost (waiting (x .course) j)) (s .unfinished)
+  load j = sumBy (λ x. cost-left x j) (s .unfinished)
 
-  -- The next operation of the transaction k is held back at j: a table of it does not admit it.
+  -- The next operation of the transaction k is held back at j.
   abbrev pub held : ℕ → ℕ → Bool
-  held k j =
-      some-below 8 (λ t. has-table (course k) (done (course k) j) (next (course k) j) t && not (admits (assigned-at k t) (version j t)))
+  held k j = held-at (transaction k) j (replica j .version)
 
-  -- The replica j can answer a read of the table t by the transaction k: it admits it, and where k declares the table for writing, no write of k to the table waits there.
+  -- The replica j can answer a read of the table t by the transaction k.
   abbrev pub qualifies : ℕ → ℕ → ℕ → Bool
-  qualifies k t j =
-      admits (assigned-at k t) (version j t) && not (writes (mode (course k) t) && some (is-write-at t) (waiting (course k) j))
+  qualifies k t j = qualifies-at (transaction k) t j (replica j .version)
 
   -- The replica that answers it: of those that qualify the least loaded, of equals the lowest.
   abbrev pub chosen : ℕ → ℕ → Option ℕ
   chosen k t = least (qualifies k t) load (length (s .replicas))
 
-  -- The checks that several calls make, each by what it asks for: that the transaction k has begun, and is open; that it declares the table t, and has not asked its release.
+  -- The transaction k has begun.
   abbrev pub known : ℕ → Bool × Refusal
   known k = (not (ltb k (s .counts .begun)), Refusal.UnknownTransaction)
-
-  abbrev pub still-open : ℕ → Bool × Refusal
-  still-open k = (ended (course k .asked), Refusal.NotOpen)
-
-  abbrev pub declared : ℕ → ℕ → Bool × Refusal
-  declared k t = (not (declares (mode (course k) t)), Refusal.NotDeclared)
-
-  abbrev pub unreleased : ℕ → ℕ → Bool × Refusal
-  unreleased k t = (released t (course k .asked), Refusal.AlreadyReleased)
 
   -- The transaction k when it has asked one operation more, and the state then.
   abbrev pub asking-transaction : ℕ → Operation → Transaction
@@ -183,15 +224,7 @@ module _ (s : State) where
 
   -- Write: of the transaction k, to the row r of the table t, the value v, at the cost of the class c.
   abbrev pub write-checks : ℕ → ℕ → ℕ → ℕ → List (Bool × Refusal)
-  write-checks k t r c =
-      known k
-      ∷ still-open k
-      ∷ (place-checks t r
-      ++ ((not (ltb c 8), Refusal.ClassOutOfRange)
-      ∷ (not (writes (mode (course k) t)), Refusal.NotDeclared)
-      ∷ unreleased k t
-      ∷ (not (ltb (count-writes (course k .asked)) 16), Refusal.TooManyWrites)
-      ∷ []))
+  write-checks k t r c = known k ∷ may-write (course k) t r c
 
   abbrev pub write-reply : ℕ → ℕ → ℕ → ℕ → ℕ × Option (Unit {0})
   write-reply k t r c = unless-refused (first (write-checks k t r c)) tt
@@ -201,7 +234,7 @@ module _ (s : State) where
 
   -- Read: the answer is the row that stands at the replica chosen, and that replica's number. It changes nothing. Whether a replica qualifies is checked last.
   abbrev pub reading-checks : ℕ → ℕ → ℕ → List (Bool × Refusal)
-  reading-checks k t r = known k ∷ still-open k ∷ (place-checks t r ++ (declared k t ∷ unreleased k t ∷ []))
+  reading-checks k t r = known k ∷ may-read (course k) t r
 
   abbrev pub read-checks : ℕ → ℕ → ℕ → List (Bool × Refusal)
   read-checks k t r = reading-checks k t r ++ ((not (isSome (chosen k t)), Refusal.NoReplicaQualifies) ∷ [])
@@ -215,8 +248,7 @@ module _ (s : State) where
 
   -- Release: of the table t by the transaction k.
   abbrev pub release-checks : ℕ → ℕ → List (Bool × Refusal)
-  release-checks k t =
-      known k ∷ still-open k ∷ (not (ltb t 8), Refusal.TableOutOfRange) ∷ declared k t ∷ unreleased k t ∷ []
+  release-checks k t = known k ∷ may-release (course k) t
 
   abbrev pub release-reply : ℕ → ℕ → ℕ × Option (Unit {0})
   release-reply k t = unless-refused (first (release-checks k t)) tt
@@ -226,7 +258,7 @@ module _ (s : State) where
 
   -- Commit: of the transaction k.
   abbrev pub commit-checks : ℕ → List (Bool × Refusal)
-  commit-checks k = known k ∷ still-open k ∷ []
+  commit-checks k = known k ∷ may-commit (course k)
 
   abbrev pub commit-reply : ℕ → ℕ × Option (Unit {0})
   commit-reply k = unless-refused (first (commit-checks k)) tt
@@ -234,12 +266,9 @@ module _ (s : State) where
   abbrev pub commit-after : ℕ → State
   commit-after k = kept-if-refused (first (commit-checks k)) s (asking k Operation.Commit)
 
-  -- Abort: of the transaction k, past recall once the release of a table that is declared for writing was asked.
-  abbrev pub past-recall : ℕ → Bool
-  past-recall k = some-below 8 (λ t. writes (mode (course k) t) && released t (course k .asked))
-
+  -- Abort: of the transaction k.
   abbrev pub abort-checks : ℕ → List (Bool × Refusal)
-  abort-checks k = known k ∷ still-open k ∷ (past-recall k, Refusal.PastRecall) ∷ []
+  abort-checks k = known k ∷ may-abort (course k)
 
   abbrev pub abort-reply : ℕ → ℕ × Option (Unit {0})
   abort-reply k = unless-refused (first (abort-checks k)) tt
