@@ -13,7 +13,7 @@ use catalogue::refusal::Refusal;
 // As many transactions may begin over the life of a sequencer.
 const MOST_BEGUN: u32 = 1_000_000;
 
-fn declares_any(modes: &[Mode; 8]) -> bool
+pub fn declares_any(modes: &[Mode; 8]) -> bool
     ensures { λ r. ⌜ r ≡ declares-any-of (now (modes .entry)) ⌝ }
 {
     for mode in modes {
@@ -86,6 +86,13 @@ impl Sequencer {
             return Err(Refusal::TableOutOfRange);
         }
         Ok(self.next[table as usize])
+    }
+
+    // How many transactions have begun.
+    pub fn begun(&self) -> u32
+        ensures { λ r. ⌜ r ≡ counts-of (now (self .entry)) .begun ⌝ }
+    {
+        self.begun
     }
 
     // Lets a transaction begin that no check refuses.

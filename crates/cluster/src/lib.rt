@@ -1,0 +1,4 @@
+// The cluster: transactions over replicas, in versions.
+pub mod cluster;
+mod copying;
+pub mod transaction;
