@@ -8,8 +8,8 @@ loop-to-preserved g c =
     let before = g.R.Replicas.catalogues c.args.replicas.now in
     let cs = g.R.Replicas.catalogues c.loop-to.replicas in
     let there : c.loop-to.to < length cs = omega (arith, c.loop-to.invariant.0.size) in (
-      subst (λ (x : List (List Row)). AlikeTo before x (c.loop-to.to + 1)) (sym c.copy-rows.ensures.rows) (alike_more before cs c.loop-to.to (omega arith) there c.loop-to.invariant.0),
-      c.copy-rows.ensures.kept ∙ c.loop-to.invariant.1,
+      subst (λ (x : List (List Row)). AlikeTo before x (c.loop-to.to + 1)) (sym c.copy_rows.ensures.rows) (alike_more before cs c.loop-to.to (omega arith) there c.loop-to.invariant.0),
+      c.copy_rows.ensures.kept ∙ c.loop-to.invariant.1,
     )
 
 pub returns : goal.returns

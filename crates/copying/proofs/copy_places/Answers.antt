@@ -11,9 +11,9 @@ pub loop-place-preserved : goal.loop-place-preserved
 loop-place-preserved g c =
     let before = g.R.Replicas.catalogues c.args.replicas.now in
     let so_far = c.loop-place.replicas in (
-      subst (λ (cs : List (List Row)). CopiedTo before cs c.args.to (c.loop-place.place + 1)) (sym c.copy-row.ensures.rows)
+      subst (λ (cs : List (List Row)). CopiedTo before cs c.args.to (c.loop-place.place + 1)) (sym c.copy_row.ensures.rows)
           (copied_more before c.args.to c.requires.0 c.requires.1.0 (g.R.Replicas.catalogues so_far) c.loop-place.place c.loop-place.invariant.0 (g.R.Replicas.whole so_far) (omega arith)),
-      c.copy-row.ensures.kept ∙ c.loop-place.invariant.1,
+      c.copy_row.ensures.kept ∙ c.loop-place.invariant.1,
     )
 
 pub returns : goal.returns

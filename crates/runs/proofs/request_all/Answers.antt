@@ -18,13 +18,13 @@ loop-request-preserved g c =
     let q = c.request-item.result in
     let before = map told (vec_items c.loop-request.answers) in
     let rest = replies pack unpack s' (drop (i + 1) qs) in (
-      ap (λ xs. map told xs ++ rest) c.push-reserved.ensures.items
+      ap (λ xs. map told xs ++ rest) c.push_reserved.ensures.items
           ∙ ap (λ xs. xs ++ rest) (map_push told (vec_items c.loop-request.answers) c.request.result)
           ∙ answers_more pack unpack s s' qs i q c.loop-request-test.true c.request-item.is c.request.ensures.after before (told c.request.result) c.request.ensures.answer
           ∙ c.loop-request.invariant.0,
       final_more pack unpack s s' qs i q c.loop-request-test.true c.request-item.is c.request.ensures.after ∙ c.loop-request.invariant.1,
-      omega (arith, c.push-reserved.ensures.len, c.loop-request.invariant.2),
-      omega (arith, c.push-reserved.ensures.capacity, c.loop-request.invariant.3),
+      omega (arith, c.push_reserved.ensures.len, c.loop-request.invariant.2),
+      omega (arith, c.push_reserved.ensures.capacity, c.loop-request.invariant.3),
       c.request.ensures.kept ∙ c.loop-request.invariant.4,
     )
 

@@ -17,18 +17,18 @@ returns-in-Ok-open g c =
     let n = length before in
     let opening = catalogue_of before 0 in
     let qs = c.args.requests.now in
-    let last = c.request-all.new.cluster in
+    let last = c.request_all.new.cluster in
     let s : State = state_of g.R.Replicas.catalogues last in
-    let answers : map told (vec_items c.request-all.new.answers) ≡ replies pack unpack (start n opening) qs =
-    c.request-all.ensures.answers
+    let answers : map told (vec_items c.request_all.new.answers) ≡ replies pack unpack (start n opening) qs =
+    c.request_all.ensures.answers
     ∙ ap (λ xs. map told xs ++ replies pack unpack (state_of g.R.Replicas.catalogues c.in-Ok-open.cluster) qs) c.in-Ok.ensures.items
     ∙ ap (λ (t : State). replies pack unpack t qs) c.in-Ok-open.ensures.state in
     let after : s ≡ final pack unpack (start n opening) qs =
-    c.request-all.ensures.after ∙ ap (λ (t : State). final pack unpack t qs) c.in-Ok-open.ensures.state in
+    c.request_all.ensures.after ∙ ap (λ (t : State). final pack unpack t qs) c.in-Ok-open.ensures.state in
     let whole = g.R.Replicas.whole c.args.replicas in
     record {
-      order = in_order pack unpack n opening qs (map told (vec_items c.request-all.new.answers)) s (g.R.Replicas.catalogues (replicas_of last)) last.versions (All-get_or (λ (rows : List Row). length rows ≡ 512) before 0 [] whole.some whole.full) answers after refl;
+      order = in_order pack unpack n opening qs (map told (vec_items c.request_all.new.answers)) s (g.R.Replicas.catalogues (replicas_of last)) last.versions (All-get_or (λ (rows : List Row). length rows ≡ 512) before 0 [] whole.some whole.full) answers after refl;
       answers = answers;
       after = after;
-      kept = c.request-all.ensures.kept ∙ c.in-Ok-open.ensures.kept;
+      kept = c.request_all.ensures.kept ∙ c.in-Ok-open.ensures.kept;
     }

@@ -7,8 +7,8 @@ returns g c =
     let s = state_of g.R.Replicas.catalogues c.args.cluster.now in
     let later = state_of g.R.Replicas.catalogues c.begin.new.self in
     record {
-      answer = c.in-ok-number.ensures.answer;
+      answer = c.in_ok-number.ensures.answer;
       after = c.begin.ensures.after;
       kept = c.begin.ensures.kept;
-      good = newest_good s c.args.modes c.in-ok-number.number later c.args.cluster.now.ordered c.in-ok-number.ensures.answer c.begin.ensures.after;
+      good = newest_good s c.args.modes c.in_ok-number.number later c.args.cluster.now.ordered c.in_ok-number.ensures.answer c.begin.ensures.after;
     }

@@ -5,16 +5,16 @@ use Rattle.field.specs.Decimals.{digits_behind}
 use Rattle.field.proofs.Digits.{digit_taken, digit_refused}
 use Rattle.field.proofs.decimal.all_digits.Goals as goal
 
-pub returns-in-err-value : goal.returns-in-err-value
-returns-in-err-value c =
+pub returns-in_err-value : goal.returns-in_err-value
+returns-in_err-value c =
     c.from-residual.ensures
-    ∙ digit_refused (2 ^ 64) c.loop-digit.value c.args.text.now c.loop-digit.digit-index c.loop-digit-test.true c.in-err-value.ensures
+    ∙ digit_refused (2 ^ 64) c.loop-digit.value c.args.text.now c.loop-digit.digit-index c.loop-digit-test.true c.in_err-value.ensures
     ∙ c.loop-digit.invariant.1
 
 pub loop-digit-preserved : goal.loop-digit-preserved
 loop-digit-preserved c = (
   omega arith,
-  sym (digit_taken (2 ^ 64) c.loop-digit.value c.args.text.now c.loop-digit.digit-index c.loop-digit-test.true c.in-ok-value.value c.in-ok-value.ensures)
+  sym (digit_taken (2 ^ 64) c.loop-digit.value c.args.text.now c.loop-digit.digit-index c.loop-digit-test.true c.in_ok-value.value c.in_ok-value.ensures)
       ∙ c.loop-digit.invariant.1,
 )
 

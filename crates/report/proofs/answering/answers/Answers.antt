@@ -13,6 +13,6 @@ pub returns-in-Ok : goal.returns-in-Ok
 unfolding zero_rows
 returns-in-Ok c =
     let few : length (replicate 512 blank) ≤ 512 = omega (arith, length-replicate 512 blank) in
-    let zero : image c.in-ok-first.first ≡ replicate 512 blank = ap (take 512) c.in-ok-first.ensures ∙ take_all 512 (replicate 512 blank) few in
+    let zero : image c.in_ok-first.first ≡ replicate 512 blank = ap (take 512) c.in_ok-first.ensures ∙ take_all 512 (replicate 512 blank) few in
     c.in-Ok.ensures.answers
     ∙ ap (λ rows. answers_to (start 3 rows) c.args.requests.now) (c.new.ensures.rows ∙ zero)

@@ -7,6 +7,6 @@ pub returns : goal.returns
 returns c =
     let before = vec_items c.args.text.now in
     let field = cell_text c.args.field in
-    IfOk-weaker c.append-to.result _ _ (
-    λ u e. e ∙ ap (λ text. text ++ field) c.in-ok-push.ensures.items ∙ append_assoc before (44 ∷ []) field
-    ) c.append-to.ensures
+    IfOk-weaker c.append_to.result _ _ (
+    λ u e. e ∙ ap (λ text. text ++ field) c.in_ok-push.ensures.items ∙ append_assoc before (44 ∷ []) field
+    ) c.append_to.ensures

@@ -5,7 +5,7 @@ use Rattle.line.specs.Refusals.{told}
 use Rattle.versioning.specs.declared.request.Request.{Request}
 use Rattle.report.specs.Writing.{requests_in}
 use Rattle.report.proofs.requesting.requests.Goals as goal
-use Rattle.report.proofs.requesting.requests.Goals.{in-Ok+in-ok-push, in-default}
+use Rattle.report.proofs.requesting.requests.Goals.{in-Ok+in_ok-push, in-default}
 
 pub loop-reading-preserved : goal.loop-reading-preserved
 loop-reading-preserved c =
@@ -16,9 +16,9 @@ loop-reading-preserved c =
     let behind = map told (drop (i + 1) xs) in
     let left = sym (at_drop_more (λ ys. before ++ requests_in (map told ys)) xs i d c.loop-reading-test.true) ∙ c.loop-reading.invariant in
     elim c.match-reading.branch [
-      | in-Ok+in-ok-push w ↦
+      | in-Ok+in_ok-push w ↦
           ap (λ v. vec_items v ++ requests_in behind) w.requests-is
-          ∙ ap (λ ys. ys ++ requests_in behind) w.in-ok-push.ensures.items
+          ∙ ap (λ ys. ys ++ requests_in behind) w.in_ok-push.ensures.items
           ∙ append_assoc before (Request.Call w.in-Ok.call ∷ []) (requests_in behind)
           ∙ ap (λ x. before ++ requests_in (told x ∷ behind)) (sym w.in-Ok.is)
           ∙ left

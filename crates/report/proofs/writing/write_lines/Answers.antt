@@ -10,8 +10,8 @@ use Rattle.report.specs.Lines.{line_text}
 use Rattle.report.proofs.Written.{answered_first, answered_rest, text_more}
 use Rattle.report.proofs.writing.write_lines.Goals as goal
 
-pub next-line-requires : goal.next-line-requires
-next-line-requires c =
+pub next_line-requires : goal.next_line-requires
+next_line-requires c =
     let i = c.loop-reading.reading-index in
     let xs = c.args.entries.now in
     let d = Ok (Call.Begin []) in
@@ -29,15 +29,15 @@ loop-reading-preserved c =
     let answers = map told c.loop-reading.left.now in
     let before = vec_items c.loop-reading.out in
     let taken = c.loop-reading-test.true in (
-      ap (λ text. text ++ written_from c.saturating-add-line.result es (map told c.next-line.result.1.now)) c.in-ok-append-to.ensures
-          ∙ ap (λ m. (before ++ (line_text c.next-line.result.0 ++ (10 ∷ []))) ++ written_from m es (map told c.next-line.result.1.now)) c.saturating-add-line.ensures
-          ∙ ap (λ x. (before ++ (line_text x ++ (10 ∷ []))) ++ written_from (counted_on n) es (map told c.next-line.result.1.now)) c.next-line.ensures.line
-          ∙ ap (λ left. (before ++ (line_text (line_with n e answers) ++ (10 ∷ []))) ++ written_from (counted_on n) es left) c.next-line.ensures.rest
+      ap (λ text. text ++ written_from c.saturating_add-line.result es (map told c.next_line.result.1.now)) c.in_ok-append_to.ensures
+          ∙ ap (λ m. (before ++ (line_text c.next_line.result.0 ++ (10 ∷ []))) ++ written_from m es (map told c.next_line.result.1.now)) c.saturating_add-line.ensures
+          ∙ ap (λ x. (before ++ (line_text x ++ (10 ∷ []))) ++ written_from (counted_on n) es (map told c.next_line.result.1.now)) c.next_line.ensures.line
+          ∙ ap (λ left. (before ++ (line_text (line_with n e answers) ++ (10 ∷ []))) ++ written_from (counted_on n) es left) c.next_line.ensures.rest
           ∙ text_more before n e es answers
           ∙ sym (at_drop_more (λ ys. before ++ written_from n (map told_Line ys) answers) xs i d taken)
           ∙ c.loop-reading.invariant.0,
-      sym (length-map c.next-line.result.1.now told)
-          ∙ ap length c.next-line.ensures.rest
+      sym (length-map c.next_line.result.1.now told)
+          ∙ ap length c.next_line.ensures.rest
           ∙ answered_rest e es answers (length-map c.loop-reading.left.now told ∙ c.loop-reading.invariant.1 ∙ at_drop_more (λ ys. length (requests_in (map told_Line ys))) xs i d taken),
     )
 

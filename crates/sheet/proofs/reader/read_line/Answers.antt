@@ -8,11 +8,11 @@ use Rattle.sheet.proofs.reader.read_line.Goals as goal
 
 pub returns : goal.returns
 returns c =
-    let f = c.in-ok-fields.fields in
+    let f = c.in_ok-fields.fields in
     let at = c.in-Some.ensures.line in
     record {
       answer =
-          read_accepted c.args.line f.line (shown f.call) (behind f) c.in-Some.text.now (told c.read-call.result) c.in-ok-fields.ensures c.read-call.ensures
+          read_accepted c.args.line f.line (shown f.call) (behind f) c.in-Some.text.now (told c.read_call.result) c.in_ok-fields.ensures c.read_call.ensures
           ∙ sym (ap (first_reply c.args.line) at);
       left = (record { text = c.in-Some.text.now; ended = true }, at);
     }

@@ -7,8 +7,8 @@ use Rattle.stores.proofs.change_list.fold.Goals as goal
 
 pub loop-i-preserved : goal.loop-i-preserved
 loop-i-preserved c = (
-  c.write-change.ensures.image
+  c.write_change.ensures.image
       ∙ ap₂ (λ (rows : List Row) (change : Change). set rows change.place change.row) c.loop-i.invariant.0 c.at.ensures
       ∙ sym (laid_more (image c.args.memory.now) c.args.changes.now.list c.loop-i.i),
-  c.write-change.ensures.beyond ∙ c.loop-i.invariant.1,
+  c.write_change.ensures.beyond ∙ c.loop-i.invariant.1,
 )

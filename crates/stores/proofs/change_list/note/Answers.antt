@@ -6,7 +6,7 @@ use Rattle.stores.specs.Held.{image, beyond}
 use Rattle.stores.specs.Changes.{laid, noted}
 use Rattle.stores.proofs.Laid.{noted_more}
 use Rattle.stores.proofs.change_list.note.Goals as goal
-use Rattle.stores.proofs.change_list.note.Goals.{then-changes-ge-MOST-CHANGES, else-changes-ge-MOST-CHANGES}
+use Rattle.stores.proofs.change_list.note.Goals.{then-changes-ge-MOST_CHANGES, else-changes-ge-MOST_CHANGES}
 
 pub returns : goal.returns
 returns c =
@@ -14,8 +14,8 @@ returns c =
     let entry = c.args.changes.now in
     let long : length entry.list ≡ 32 = search rules in
     let after = λ (m : Memory) (x : Changes). laid (image m) (set x.list x.count change) (min (x.count + 1) 32) in
-    elim c.if-changes-ge-MOST-CHANGES.branch [
-      | then-changes-ge-MOST-CHANGES w ↦
+    elim c.if-changes-ge-MOST_CHANGES.branch [
+      | then-changes-ge-MOST_CHANGES w ↦
           record {
             rows =
                 ap₂ after w.memory-is w.changes-is
@@ -23,9 +23,9 @@ returns c =
                 ∙ ap (λ (rows : List Row). set rows change.place change.row) w.fold.ensures.image;
             beyond = ap beyond w.memory-is ∙ w.fold.ensures.beyond;
           }
-      | else-changes-ge-MOST-CHANGES w ↦
+      | else-changes-ge-MOST_CHANGES w ↦
           record {
-            rows = ap₂ after w.memory-is w.changes-is ∙ noted_more (image c.args.memory.now) entry.list entry.count change long w.if-changes-ge-MOST-CHANGES.false;
+            rows = ap₂ after w.memory-is w.changes-is ∙ noted_more (image c.args.memory.now) entry.list entry.count change long w.if-changes-ge-MOST_CHANGES.false;
             beyond = ap beyond w.memory-is;
           }
     ]

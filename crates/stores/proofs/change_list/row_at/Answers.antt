@@ -25,4 +25,4 @@ pub returns : goal.returns
 returns c =
     let m = c.args.memory.now in
     let none : c.loop-i.i ≡ 0 = omega arith in
-    c.read-row.ensures ∙ sym (c.loop-i.invariant ∙ ap (λ n. get_or (laid (image m) c.args.changes.now.list n) c.args.place blank) none)
+    c.read_row.ensures ∙ sym (c.loop-i.invariant ∙ ap (λ n. get_or (laid (image m) c.args.changes.now.list n) c.args.place blank) none)

@@ -12,13 +12,13 @@ use Rattle.cluster.proofs.Answered.{accepted, refused}
 use Rattle.cluster.proofs.Begun.{rising_push, room_push}
 use Rattle.cluster.proofs.cluster.Cluster.admit.Goals as goal
 
-pub returns-in-err-begun : goal.returns-in-err-begun
-returns-in-err-begun g c =
+pub returns-in_err-begun : goal.returns-in_err-begun
+returns-in_err-begun g c =
     let st = state_of g.R.Replicas.catalogues c.args.self.now in
     let modes = c.args.modes in
     let n = begin_refusal st.counts modes in
-    let e = c.in-err-begun.ensures.answer in
-    let no = (refused n (admitted st.counts modes) (number c.in-err-begun.field-0.0) e).1 in
+    let e = c.in_err-begun.ensures.answer in
+    let no = (refused n (admitted st.counts modes) (number c.in_err-begun.field-0.0) e).1 in
     let p = err_from_is_err_and c.from-residual.result c.from-residual.ensures.1 in
     record {
       answer = rw (p.1, p.2) e;
@@ -28,21 +28,21 @@ returns-in-err-begun g c =
       kept = refl;
     }
 
-pub invariant-of-self-2 : goal.invariant-of-self-2
-invariant-of-self-2 g c =
+pub invariant_of-self-2 : goal.invariant_of-self-2
+invariant_of-self-2 g c =
     let s = c.args.self.now in
     let st = state_of g.R.Replicas.catalogues s in
     let modes = c.args.modes in
     let items = vec_items s.unfinished in
-    let begun = c.in-ok-begun.begun in
+    let begun = c.in_ok-begun.begun in
     let x = c.new.result in
-    let a = accepted (begin_refusal st.counts modes) (admitted st.counts modes) begun c.in-ok-begun.ensures.answer in
+    let a = accepted (begin_refusal st.counts modes) (admitted st.counts modes) begun c.in_ok-begun.ensures.answer in
     let counts : counts_of c.begin.new.self ≡ admitted_after st.counts modes = c.begin.ensures.after ∙ ap (λ k. cond (eqb k 0) (admitted_after st.counts modes) st.counts) a.0 in
-    let list : transactions_of (vec_items c.push-reserved.new.self) ≡ transactions_of items ++ begun_as modes begun ∷ [] =
-    ap transactions_of c.push-reserved.ensures.items ∙ map_push transaction_of items x ∙ ap (λ (u : Unfinished). transactions_of items ++ u ∷ []) c.new.ensures in (
-      omega (arith, c.push-reserved.ensures.capacity, s.reserved),
+    let list : transactions_of (vec_items c.push_reserved.new.self) ≡ transactions_of items ++ begun_as modes begun ∷ [] =
+    ap transactions_of c.push_reserved.ensures.items ∙ map_push transaction_of items x ∙ ap (λ (u : Unfinished). transactions_of items ++ u ∷ []) c.new.ensures in (
+      omega (arith, c.push_reserved.ensures.capacity, s.reserved),
       (
-        omega (arith, c.push-reserved.ensures.len, c.requires),
+        omega (arith, c.push_reserved.ensures.len, c.requires),
         (
           ap (λ (us : List Unfinished). rising 0 us (counts_of c.begin.new.self).begun) list
               ∙ ap (λ (k : Counts). rising 0 (transactions_of items ++ begun_as modes begun ∷ []) k.begun) counts
@@ -64,15 +64,15 @@ returns g c =
     let modes = c.args.modes in
     let items = vec_items s.unfinished in
     let n = begin_refusal st.counts modes in
-    let begun = c.in-ok-begun.begun in
+    let begun = c.in_ok-begun.begun in
     let x = c.new.result in
-    let a = accepted n (admitted st.counts modes) begun c.in-ok-begun.ensures.answer in
+    let a = accepted n (admitted st.counts modes) begun c.in_ok-begun.ensures.answer in
     record {
-      answer = c.in-ok-begun.ensures.answer;
+      answer = c.in_ok-begun.ensures.answer;
       after =
-          ap (λ (k : Counts). record { counts = k; replicas = st.replicas; unfinished = transactions_of (vec_items c.push-reserved.new.self) }) (c.begin.ensures.after ∙ ap (λ k. cond (eqb k 0) (admitted_after st.counts modes) st.counts) a.0)
+          ap (λ (k : Counts). record { counts = k; replicas = st.replicas; unfinished = transactions_of (vec_items c.push_reserved.new.self) }) (c.begin.ensures.after ∙ ap (λ k. cond (eqb k 0) (admitted_after st.counts modes) st.counts) a.0)
           ∙ ap (λ (us : List Unfinished). record { counts = admitted_after st.counts modes; replicas = st.replicas; unfinished = us })
-          (ap transactions_of c.push-reserved.ensures.items
+          (ap transactions_of c.push_reserved.ensures.items
           ∙ map_push transaction_of items x
           ∙ ap (λ (u : Unfinished). transactions_of items ++ u ∷ []) (c.new.ensures ∙ ap (begun_as modes) a.1))
           ∙ ap (λ k. kept_if_refused k st (beginning_after st modes)) (sym a.0);

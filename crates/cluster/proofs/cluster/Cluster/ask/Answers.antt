@@ -15,8 +15,8 @@ index-mut-requires g c =
     let v = c.args.self.now.unfinished in
     omega (arith, c.in-Some.ensures.within, many (vec_items v), v.ok.0)
 
-pub invariant-of-self : goal.invariant-of-self
-invariant-of-self g c =
+pub invariant_of-self : goal.invariant_of-self
+invariant_of-self g c =
     let s = c.args.self.now in
     let items = vec_items s.unfinished in
     let xs = transactions_of items in

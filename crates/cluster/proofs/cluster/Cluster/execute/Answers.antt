@@ -32,14 +32,14 @@ execute-requires g c =
           omega (arith, s.room j t lt, holder_at j t xs c.args.i x (omega (arith, within, many items)) shown held.0 held.1, s.sequencer.counted t, s.sequencer.few);
     }
 
-pub all-executed-requires : goal.all-executed-requires
-all-executed-requires g c = omega (arith, c.count-count.ensures, (g.R.Replicas.whole c.args.self.now.replicas).few)
+pub all_executed-requires : goal.all_executed-requires
+all_executed-requires g c = omega (arith, c.count-count.ensures, (g.R.Replicas.whole c.args.self.now.replicas).few)
 
 pub bounds-self-replica-2 : goal.bounds-self-replica-2
 bounds-self-replica-2 g c = omega (arith, (g.R.Replicas.whole c.args.self.now.replicas).few, c.requires.place.1)
 
-pub invariant-of-self : goal.invariant-of-self
-invariant-of-self g c =
+pub invariant_of-self : goal.invariant_of-self
+invariant_of-self g c =
     let s = c.args.self.now in
     let items = vec_items s.unfinished in
     let i = c.args.i in
@@ -68,8 +68,8 @@ invariant-of-self g c =
       ),
     )
 
-pub invariant-of-self-else-all-executed : goal.invariant-of-self-else-all-executed
-invariant-of-self-else-all-executed g c =
+pub invariant_of-self-else-all_executed : goal.invariant_of-self-else-all_executed
+invariant_of-self-else-all_executed g c =
     let s = c.args.self.now in
     let items = vec_items s.unfinished in
     let i = c.args.i in
@@ -95,8 +95,8 @@ invariant-of-self-else-all-executed g c =
       ),
     )
 
-pub returns-then-all-executed : goal.returns-then-all-executed
-returns-then-all-executed g c =
+pub returns-then-all_executed : goal.returns-then-all_executed
+returns-then-all_executed g c =
     let s = c.args.self.now in
     let items = vec_items s.unfinished in
     let i = c.args.i in
@@ -112,7 +112,7 @@ returns-then-all-executed g c =
     let w : waits (course_of x) j ≡ true = sym (ap (λ (u : Unfinished). waits u.course j) shown) ∙ c.requires.waits in
     let read : c.index.result.now ≡ y = c.index.ensures ∙ get_or-set_same items i y c.index.result.now within in
     let all : all_executed (length cs) (advance j (course_of x)) ≡ true =
-    sym (c.if-all-executed.ensures ∙ ap (λ (z : Transaction). all_executed c.count-count.result (course_of z)) read ∙ ap (λ (u : Unfinished). all_executed c.count-count.result u.course) c.execute.ensures.after ∙ ap (λ n. all_executed n (advance j (course_of x))) c.count-count.ensures) in
+    sym (c.if-all_executed.ensures ∙ ap (λ (z : Transaction). all_executed c.count-count.result (course_of z)) read ∙ ap (λ (u : Unfinished). all_executed c.count-count.result u.course) c.execute.ensures.after ∙ ap (λ n. all_executed n (advance j (course_of x))) c.count-count.ensures) in
     record {
       after =
           stepped_state (counts_of s.sequencer) cs s.versions (transactions_of items) i j (transaction_of x) c.requires.place.1 lj shown (g.R.Replicas.catalogues c.execute.new.replicas) c.execute.new.versions (transactions_of (vec_items c.remove.new.self)) true all c.execute.ensures.rows c.execute.ensures.versions
@@ -120,8 +120,8 @@ returns-then-all-executed g c =
       kept = c.execute.ensures.kept;
     }
 
-pub returns-else-all-executed : goal.returns-else-all-executed
-returns-else-all-executed g c =
+pub returns-else-all_executed : goal.returns-else-all_executed
+returns-else-all_executed g c =
     let s = c.args.self.now in
     let items = vec_items s.unfinished in
     let i = c.args.i in
@@ -137,7 +137,7 @@ returns-else-all-executed g c =
     let w : waits (course_of x) j ≡ true = sym (ap (λ (u : Unfinished). waits u.course j) shown) ∙ c.requires.waits in
     let read : c.index.result.now ≡ y = c.index.ensures ∙ get_or-set_same items i y c.index.result.now within in
     let all : all_executed (length cs) (advance j (course_of x)) ≡ false =
-    sym (c.if-all-executed.ensures ∙ ap (λ (z : Transaction). all_executed c.count-count.result (course_of z)) read ∙ ap (λ (u : Unfinished). all_executed c.count-count.result u.course) c.execute.ensures.after ∙ ap (λ n. all_executed n (advance j (course_of x))) c.count-count.ensures) in
+    sym (c.if-all_executed.ensures ∙ ap (λ (z : Transaction). all_executed c.count-count.result (course_of z)) read ∙ ap (λ (u : Unfinished). all_executed c.count-count.result u.course) c.execute.ensures.after ∙ ap (λ n. all_executed n (advance j (course_of x))) c.count-count.ensures) in
     record {
       after =
           stepped_state (counts_of s.sequencer) cs s.versions (transactions_of items) i j (transaction_of x) c.requires.place.1 lj shown (g.R.Replicas.catalogues c.execute.new.replicas) c.execute.new.versions (transactions_of (set items i y)) false all c.execute.ensures.rows c.execute.ensures.versions

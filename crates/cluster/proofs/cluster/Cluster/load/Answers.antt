@@ -17,7 +17,7 @@ loop-transaction-preserved g c =
     let within : i < length items = omega (arith, ap length same) in
     let is : x ≡ get_or items i x = c.transaction-item.is ∙ ap (λ (xs : List Transaction). get_or xs i x) same in
     let cost : cost_left (get_or (transactions_of items) i finished) j ≡ cost_left (transaction_of x) j = ap (λ (u : Unfinished). cost_left u j) (shown_at items i x within is) in (
-      omega (arith, sum_by_more (λ (u : Unfinished). cost_left u j) (transactions_of items) i finished (omega (arith, many items)), cost, c.cost-left-total.ensures.is),
+      omega (arith, sum_by_more (λ (u : Unfinished). cost_left u j) (transactions_of items) i finished (omega (arith, many items)), cost, c.cost_left-total.ensures.is),
       omega arith,
     )
 

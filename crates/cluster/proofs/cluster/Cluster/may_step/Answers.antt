@@ -11,22 +11,22 @@ index-requires g c =
     let v = c.args.self.now.unfinished in
     omega (arith, c.in-Some.ensures.within, many (vec_items v), v.ok.0)
 
-pub may-execute-requires : goal.may-execute-requires
-may-execute-requires g c =
+pub may_execute-requires : goal.may_execute-requires
+may_execute-requires g c =
     let s = c.args.self.now in
-    omega (arith, c.replica-count.ensures, paired_length (g.R.Replicas.catalogues s.replicas) s.versions, (g.R.Replicas.whole s.replicas).few)
+    omega (arith, c.replica_count.ensures, paired_length (g.R.Replicas.catalogues s.replicas) s.versions, (g.R.Replicas.whole s.replicas).few)
 
-pub returns-in-err-may-execute : goal.returns-in-err-may-execute
-returns-in-err-may-execute g c =
+pub returns-in_err-may_execute : goal.returns-in_err-may_execute
+returns-in_err-may_execute g c =
     let s = c.args.self.now in
-    let there : c.args.replica < length (g.R.Replicas.catalogues s.replicas) = omega (arith, c.replica-count.ensures, paired_length (g.R.Replicas.catalogues s.replicas) s.versions) in
+    let there : c.args.replica < length (g.R.Replicas.catalogues s.replicas) = omega (arith, c.replica_count.ensures, paired_length (g.R.Replicas.catalogues s.replicas) s.versions) in
     let begun : c.args.number < (counts_of s.sequencer).begun = omega (arith, c.begun.ensures) in
     let p = err_from_is_err_and c.from-residual.result c.from-residual.ensures.1 in
-    rw (p.1, p.2) (step_refused g.R.Replicas.catalogues s c.args.number c.args.replica c.in-Some.i c.index.result.now there begun c.in-Some.ensures c.index.ensures _ c.in-err-may-execute.ensures)
+    rw (p.1, p.2) (step_refused g.R.Replicas.catalogues s c.args.number c.args.replica c.in-Some.i c.index.result.now there begun c.in-Some.ensures c.index.ensures _ c.in_err-may_execute.ensures)
 
 pub returns : goal.returns
 returns g c =
     let s = c.args.self.now in
-    let there : c.args.replica < length (g.R.Replicas.catalogues s.replicas) = omega (arith, c.replica-count.ensures, paired_length (g.R.Replicas.catalogues s.replicas) s.versions) in
+    let there : c.args.replica < length (g.R.Replicas.catalogues s.replicas) = omega (arith, c.replica_count.ensures, paired_length (g.R.Replicas.catalogues s.replicas) s.versions) in
     let begun : c.args.number < (counts_of s.sequencer).begun = omega (arith, c.begun.ensures) in
-    steps_at g.R.Replicas.catalogues s c.args.number c.args.replica c.in-Some.i c.index.result.now there begun c.in-Some.ensures c.index.ensures c.in-ok-may-execute.ensures
+    steps_at g.R.Replicas.catalogues s c.args.number c.args.replica c.in-Some.i c.index.result.now there begun c.in-Some.ensures c.index.ensures c.in_ok-may_execute.ensures

@@ -10,21 +10,21 @@ index-transaction-requires g c =
     let v = c.args.self.now.unfinished in
     omega (arith, c.in-Some.ensures.within, many (vec_items v), v.ok.0)
 
-pub returns-in-err-may-read : goal.returns-in-err-may-read
-returns-in-err-may-read g c =
+pub returns-in_err-may_read : goal.returns-in_err-may_read
+returns-in_err-may_read g c =
     let s = c.args.self.now in
     let begun : c.args.number < (counts_of s.sequencer).begun = omega (arith, c.begun.ensures) in
     let p = err_from_is_err_and c.from-residual.result c.from-residual.ensures.1 in
-    rw (p.1, p.2) (read_refused g.R.Replicas.catalogues s c.args.number c.in-Some.i c.args.table c.args.row c.index-transaction.result.now begun c.in-Some.ensures c.index-transaction.ensures _ c.in-err-may-read.ensures)
+    rw (p.1, p.2) (read_refused g.R.Replicas.catalogues s c.args.number c.in-Some.i c.args.table c.args.row c.index-transaction.result.now begun c.in-Some.ensures c.index-transaction.ensures _ c.in_err-may_read.ensures)
 
 pub returns-in-Some-choose : goal.returns-in-Some-choose
 returns-in-Some-choose g c =
     let s = c.args.self.now in
     let begun : c.args.number < (counts_of s.sequencer).begun = omega (arith, c.begun.ensures) in
-    read_chosen g.R.Replicas.catalogues s c.args.number c.in-Some.i c.args.table c.args.row c.index-transaction.result.now begun c.in-Some.ensures c.index-transaction.ensures c.in-ok-may-read.ensures c.in-Some-choose.replica c.in-Some-choose.ensures
+    read_chosen g.R.Replicas.catalogues s c.args.number c.in-Some.i c.args.table c.args.row c.index-transaction.result.now begun c.in-Some.ensures c.index-transaction.ensures c.in_ok-may_read.ensures c.in-Some-choose.replica c.in-Some-choose.ensures
 
 pub returns-in-None : goal.returns-in-None
 returns-in-None g c =
     let s = c.args.self.now in
     let begun : c.args.number < (counts_of s.sequencer).begun = omega (arith, c.begun.ensures) in
-    read_unqualified g.R.Replicas.catalogues s c.args.number c.in-Some.i c.args.table c.args.row c.index-transaction.result.now begun c.in-Some.ensures c.index-transaction.ensures c.in-ok-may-read.ensures c.in-None.ensures
+    read_unqualified g.R.Replicas.catalogues s c.args.number c.in-Some.i c.args.table c.args.row c.index-transaction.result.now begun c.in-Some.ensures c.index-transaction.ensures c.in_ok-may_read.ensures c.in-None.ensures

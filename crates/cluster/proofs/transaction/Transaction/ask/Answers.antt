@@ -8,8 +8,8 @@ use Rattle.cluster.proofs.Asked.{room, phased_now, orderly_now, modest_now, tall
 use Rattle.cluster.proofs.Priced.{all_most, priced_more}
 use Rattle.cluster.proofs.transaction.Transaction.ask.Goals as goal
 
-pub invariant-of-self : goal.invariant-of-self
-invariant-of-self c =
+pub invariant_of-self : goal.invariant_of-self
+invariant_of-self c =
     let x = c.args.self.now in
     let op = c.args.operation in
     let accepted : first (may_ask (course_of x) op) ≡ 0 = search rules in

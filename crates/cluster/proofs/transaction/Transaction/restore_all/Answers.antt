@@ -6,8 +6,8 @@ pub loop-turn-preserved : goal.loop-turn-preserved
 loop-turn-preserved g c =
     let x = c.args.self.now in
     let j = c.args.replica in
-    let turn = undo_step (g.R.Replicas.catalogues c.loop-turn.replicas) j x.asked (get_or x.replaced j []) (get_or x.executed j 0) c.loop-turn.turn (g.R.Replicas.catalogues c.restore-newest.new.replicas) c.loop-turn-test.true (omega (arith, c.loop-turn.invariant.0)) c.restore-newest.ensures.rows in
-    (turn.0 ∙ c.loop-turn.invariant.0, turn.1 ∙ c.loop-turn.invariant.1, c.restore-newest.ensures.kept ∙ c.loop-turn.invariant.2)
+    let turn = undo_step (g.R.Replicas.catalogues c.loop-turn.replicas) j x.asked (get_or x.replaced j []) (get_or x.executed j 0) c.loop-turn.turn (g.R.Replicas.catalogues c.restore_newest.new.replicas) c.loop-turn-test.true (omega (arith, c.loop-turn.invariant.0)) c.restore_newest.ensures.rows in
+    (turn.0 ∙ c.loop-turn.invariant.0, turn.1 ∙ c.loop-turn.invariant.1, c.restore_newest.ensures.kept ∙ c.loop-turn.invariant.2)
 
 pub returns : goal.returns
 returns g c =

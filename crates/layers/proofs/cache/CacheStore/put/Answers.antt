@@ -12,8 +12,8 @@ returns g c =
     let r = c.args.row in
     let v = c.args.value in
     let rows = g.S.Store.rows s.below in
-    let place = c.in-ok-place.place in
-    let p = c.in-ok-place.ensures.found in
+    let place = c.in_ok-place.place in
+    let p = c.in_ok-place.ensures.found in
     let sixteen : length s.lines ≡ 16 = search rules in
     record {
       answer = sym (put_told_in t r p.table p.row);

@@ -9,6 +9,6 @@ line_more text line refusal number replica high low end = simp append_assoc
 pub returns : goal.returns
 returns c =
     let x = c.args.self.now in
-    c.in-ok-push.ensures.items
-    ∙ ap (λ text. text ++ (10 ∷ [])) c.in-ok-append-fields.ensures
+    c.in_ok-push.ensures.items
+    ∙ ap (λ text. text ++ (10 ∷ [])) c.in_ok-append_fields.ensures
     ∙ line_more (vec_items c.args.text.now) (decimal x.line) (44 ∷ decimal x.refusal) (44 ∷ cell_text x.number) (44 ∷ cell_text x.replica) (44 ∷ cell_text x.high) (44 ∷ cell_text x.low) (10 ∷ [])

@@ -7,4 +7,4 @@ pub returns-in-Ok-None : goal.returns-in-Ok-None
 returns-in-Ok-None c =
     let s = standing c.args.self.now in
     let e = end_entry s.sheet s.line s.left (search rules) in
-    record { answer = e.0; after = c.next-line.ensures.after ∙ e.1 }
+    record { answer = e.0; after = c.next_line.ensures.after ∙ e.1 }

@@ -16,20 +16,20 @@ returns-then-self-sheet c =
     let e = at_end r.sheet.now r.at c.if-self-sheet.true in
     record { answer = end_reply r.sheet.now r.line left e; after = end_after r.sheet.now r.line left e; kept = tt }
 
-pub returns-in-err-call : goal.returns-in-err-call
-returns-in-err-call c =
+pub returns-in_err-call : goal.returns-in_err-call
+returns-in_err-call c =
     let r = c.args.self.now in
     let sheet = r.sheet.now in
     let left = lines (drop r.at sheet) in
     let p = err_from_is_err_and c.from-residual.result c.from-residual.ensures.1 in
     let there : c.new-guard.result.cursor.now ≡ r.at = c.new-guard.ensures.value in
     let back : c.drop-guard.new.self.0 ≡ r.at = c.drop-guard.ensures ∙ c.new-guard.ensures.from in
-    let e = c.in-err-call.field-0.0 in
+    let e = c.in_err-call.field-0.0 in
     let same : ◌≡◌ {A = Told Call} (refused e.refusal e.line e.field) (first_reply r.line left) =
-    c.in-err-call.ensures.answer ∙ ap (λ k. first_reply r.line (lines (drop k sheet))) there in
-    let l = c.in-err-call.ensures.left.0 in
-    let ls = lines (drop c.read-line.new.cursor sheet) in
-    let more : left ≡ l ∷ ls = ap (λ k. lines (drop k sheet)) (sym there) ∙ c.in-err-call.ensures.left.1 in
+    c.in_err-call.ensures.answer ∙ ap (λ k. first_reply r.line (lines (drop k sheet))) there in
+    let l = c.in_err-call.ensures.left.0 in
+    let ls = lines (drop c.read_line.new.cursor sheet) in
+    let more : left ≡ l ∷ ls = ap (λ k. lines (drop k sheet)) (sym there) ∙ c.in_err-call.ensures.left.1 in
     let as-was : ◌≡◌ {A = Reader} (record { sheet = r.sheet; at = c.drop-guard.new.self.0; line = r.line }) r = ap (λ (k : ℕ). record { sheet = r.sheet; at = k; line = r.line }) back in
     record {
       answer = ap (told_next {T = Call}) p.1 ∙ ap (λ (x : SheetRefusal). refused {T = Call} x.refusal x.line x.field) p.2 ∙ same;
