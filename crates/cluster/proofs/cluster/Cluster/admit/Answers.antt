@@ -19,7 +19,7 @@ returns-in_err-begun g c =
     let n = begin_refusal st.counts modes in
     let e = c.in_err-begun.ensures.answer in
     let no = (refused n (admitted st.counts modes) (number c.in_err-begun.field-0.0) e).1 in
-    let p = err_from_is_err_and c.from-residual.result c.from-residual.ensures.1 in
+    let p = err_from_is_err_and c.from_residual.result c.from_residual.ensures.1 in
     record {
       answer = rw (p.1, p.2) e;
       after =

@@ -14,7 +14,7 @@ pub returns-in_err-may_read : goal.returns-in_err-may_read
 returns-in_err-may_read g c =
     let s = c.args.self.now in
     let begun : c.args.number < (counts_of s.sequencer).begun = omega (arith, c.begun.ensures) in
-    let p = err_from_is_err_and c.from-residual.result c.from-residual.ensures.1 in
+    let p = err_from_is_err_and c.from_residual.result c.from_residual.ensures.1 in
     rw (p.1, p.2) (read_refused g.R.Replicas.catalogues s c.args.number c.in-Some.i c.args.table c.args.row c.index-transaction.result.now begun c.in-Some.ensures c.index-transaction.ensures _ c.in_err-may_read.ensures)
 
 pub returns-in-Some-choose : goal.returns-in-Some-choose

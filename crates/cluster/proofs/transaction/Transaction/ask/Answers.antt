@@ -34,8 +34,8 @@ invariant_of-self c =
       ),
     )
 
-pub overflow-add-self : goal.overflow-add-self
-overflow-add-self c =
+pub overflow_add-self : goal.overflow_add-self
+overflow_add-self c =
     let x = c.args.self.now in
     omega (arith, all_most x, x.size, c.cost.ensures.most)
 
