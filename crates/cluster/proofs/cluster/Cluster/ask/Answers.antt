@@ -26,21 +26,16 @@ invariant_of-self g c =
     let at = c.in-Some.ensures in
     let shown = shown_at items i x (omega (arith, at.within, many items)) c.index_mut.ensures.value in
     let list : transactions_of (set items i y) ≡ set xs i (transaction_of y) = map-set transaction_of items i y in
-    let number : (transaction_of y).number ≡ (get_or xs i finished).number = ap (λ (u : Unfinished). u.number) c.ask.ensures.after ∙ number_asked (transaction_of x) c.args.operation ∙ sym (ap (λ (u : Unfinished). u.number) shown) in (
-      s.reserved,
-      (
-        s.few,
-        (
-          ap (λ (us : List Unfinished). rising 0 us (counts_of s.sequencer).begun) list ∙ rising_set 0 xs i (counts_of s.sequencer).begun (transaction_of y) at.within number ∙ s.ordered,
-          (
-            (λ j t l.
+    let number : (transaction_of y).number ≡ (get_or xs i finished).number = ap (λ (u : Unfinished). u.number) c.ask.ensures.after ∙ number_asked (transaction_of x) c.args.operation ∙ sym (ap (λ (u : Unfinished). u.number) shown) in
+    record {
+      reserved = s.reserved;
+      few = s.few;
+      ordered = ap (λ (us : List Unfinished). rising 0 us (counts_of s.sequencer).begun) list ∙ rising_set 0 xs i (counts_of s.sequencer).begun (transaction_of y) at.within number ∙ s.ordered;
+      room = (λ j t l.
                 let holding : holds j t (transaction_of y) ≡ holds j t (get_or xs i finished) = ap (holds j t) c.ask.ensures.after ∙ holds_asked x c.args.operation j t ∙ sym (ap (holds j t) shown) in
-                omega (arith, s.room j t l, ap (holders j t) list, holders_set j t xs i (transaction_of y) at.within, ap bit holding)),
-            tt,
-          ),
-        ),
-      ),
-    )
+                omega (arith, s.room j t l, ap (holders j t) list, holders_set j t xs i (transaction_of y) at.within, ap bit holding));
+    }
+
 
 pub returns : goal.returns
 returns g c =
