@@ -1,4 +1,4 @@
-use Rattle.std.proofs.Common.{◌≡◌, ◌+◌, Bool, cond, eqb, List, [], ◌∷◌, ◌++◌, vec_items, sym, refl, ap, ◌∙◌, subst, arith}
+use Rattle.std.proofs.Common.{◌≡◌, Bool, cond, eqb, List, [], ◌∷◌, ◌++◌, vec_items, sym, refl, ap, ◌∙◌, subst, arith}
 use Rattle.std.proofs.lemmas.List.{map_push}
 use Rattle.std.proofs.lemmas.Result.{err_from_is_err_and}
 use Rattle.catalogue.specs.Refusals.{number}
@@ -44,13 +44,12 @@ invariant_of-self-2 g c =
       reserved = omega (arith, c.push_reserved.ensures.capacity, s.reserved);
       few = omega (arith, c.push_reserved.ensures.len, c.requires);
       ordered = ap (λ (us : List Unfinished). rising 0 us (counts_of c.begin.new.self).begun) list
-              ∙ ap (λ (k : Counts). rising 0 (transactions_of items ++ begun_as modes begun ∷ []) k.begun) counts
-              ∙ rising_push 0 (transactions_of items) st.counts.begun (begun_as modes begun) s.ordered (ap (λ (b : Begun). b.number) a.1);
+          ∙ ap (λ (k : Counts). rising 0 (transactions_of items ++ begun_as modes begun ∷ []) k.begun) counts
+          ∙ rising_push 0 (transactions_of items) st.counts.begun (begun_as modes begun) s.ordered (ap (λ (b : Begun). b.number) a.1);
       room = subst (λ (us : List Unfinished). Room s.versions (counts_of c.begin.new.self).next us) (sym list)
-                (subst (λ (k : Counts). Room s.versions k.next (transactions_of items ++ begun_as modes begun ∷ [])) (sym counts)
-                (room_push s.versions s.sequencer.next (transactions_of items) modes begun s.room));
+          (subst (λ (k : Counts). Room s.versions k.next (transactions_of items ++ begun_as modes begun ∷ [])) (sym counts)
+          (room_push s.versions s.sequencer.next (transactions_of items) modes begun s.room));
     }
-
 
 pub returns : goal.returns
 returns g c =

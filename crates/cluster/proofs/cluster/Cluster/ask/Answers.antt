@@ -32,10 +32,9 @@ invariant_of-self g c =
       few = s.few;
       ordered = ap (λ (us : List Unfinished). rising 0 us (counts_of s.sequencer).begun) list ∙ rising_set 0 xs i (counts_of s.sequencer).begun (transaction_of y) at.within number ∙ s.ordered;
       room = (λ j t l.
-                let holding : holds j t (transaction_of y) ≡ holds j t (get_or xs i finished) = ap (holds j t) c.ask.ensures.after ∙ holds_asked x c.args.operation j t ∙ sym (ap (holds j t) shown) in
-                omega (arith, s.room j t l, ap (holders j t) list, holders_set j t xs i (transaction_of y) at.within, ap bit holding));
+          let holding : holds j t (transaction_of y) ≡ holds j t (get_or xs i finished) = ap (holds j t) c.ask.ensures.after ∙ holds_asked x c.args.operation j t ∙ sym (ap (holds j t) shown) in
+          omega (arith, s.room j t l, ap (holders j t) list, holders_set j t xs i (transaction_of y) at.within, ap bit holding));
     }
-
 
 pub returns : goal.returns
 returns g c =

@@ -57,11 +57,10 @@ invariant_of-self g c =
       reserved = omega (arith, c.remove.ensures.capacity, s.reserved);
       few = omega (arith, c.remove.ensures.len, s.few);
       ordered = ap (λ (l : List Transaction). rising 0 (transactions_of l) s.sequencer.begun) list
-              ∙ ordered_gone s.versions s.sequencer.next s.sequencer.begun items i j x y rows c.execute.new.versions within lj shown w c.execute.ensures.after c.execute.ensures.versions s.ordered;
+          ∙ ordered_gone s.versions s.sequencer.next s.sequencer.begun items i j x y rows c.execute.new.versions within lj shown w c.execute.ensures.after c.execute.ensures.versions s.ordered;
       room = subst (λ (l : List Transaction). Room (set s.versions j c.execute.new.versions) s.sequencer.next (transactions_of l)) (sym list)
-                (room_gone s.versions s.sequencer.next s.sequencer.begun items i j x y rows c.execute.new.versions within lj shown w c.execute.ensures.after c.execute.ensures.versions s.room);
+          (room_gone s.versions s.sequencer.next s.sequencer.begun items i j x y rows c.execute.new.versions within lj shown w c.execute.ensures.after c.execute.ensures.versions s.room);
     }
-
 
 pub invariant_of-self-else-all_executed : goal.invariant_of-self-else-all_executed
 invariant_of-self-else-all_executed g c =
@@ -83,7 +82,6 @@ invariant_of-self-else-all_executed g c =
       ordered = ordered_kept s.versions s.sequencer.next s.sequencer.begun items i j x y rows c.execute.new.versions within lj shown w c.execute.ensures.after c.execute.ensures.versions s.ordered;
       room = room_kept s.versions s.sequencer.next s.sequencer.begun items i j x y rows c.execute.new.versions within lj shown w c.execute.ensures.after c.execute.ensures.versions s.room;
     }
-
 
 pub returns-then-all_executed : goal.returns-then-all_executed
 returns-then-all_executed g c =

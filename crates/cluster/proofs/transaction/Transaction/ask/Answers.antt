@@ -26,7 +26,6 @@ invariant_of-self c =
       priced = priced_more x.costs x.asked x.count op c.cost.result c.cost.ensures.is (room x op accepted) wide x.priced;
     }
 
-
 pub overflow_add-self : goal.overflow_add-self
 overflow_add-self c =
     let x = c.args.self.now in
