@@ -11,7 +11,7 @@ some m = Some m
 pub returns-in_err-mode : goal.returns-in_err-mode
 returns-in_err-mode c =
     let bs = c.args.letters.now in
-    c.from-residual.ensures
+    c.from_residual.ensures
     ∙ sym (cond-true (eqb (length bs) 8) (modes_of bs) None (eq-eqb (length bs) 8 (omega arith)) ∙ one_unknown bs c.loop-table.table c.loop-table-test.true (sym c.in_err-mode.ensures))
 
 pub loop-table-preserved : goal.loop-table-preserved
