@@ -21,7 +21,7 @@ returns-in_err-call c =
     let r = c.args.self.now in
     let sheet = r.sheet.now in
     let left = lines (drop r.at sheet) in
-    let p = err_from_is_err_and c.from-residual.result c.from-residual.ensures.1 in
+    let p = err_from_is_err_and c.from_residual.result c.from_residual.ensures.1 in
     let there : c.new-guard.result.cursor.now ≡ r.at = c.new-guard.ensures.value in
     let back : c.drop-guard.new.self.0 ≡ r.at = c.drop-guard.ensures ∙ c.new-guard.ensures.from in
     let e = c.in_err-call.field-0.0 in
@@ -34,5 +34,5 @@ returns-in_err-call c =
     record {
       answer = ap (told_next {T = Call}) p.1 ∙ ap (λ (x : SheetRefusal). refused {T = Call} x.refusal x.line x.field) p.2 ∙ same;
       after = ap standing as-was ∙ refused_after sheet r.line left l ls more (sym (ap (λ (t : Told Call). t.3) same));
-      kept = kept_so c.from-residual.result r _ as-was;
+      kept = kept_so c.from_residual.result r _ as-was;
     }
