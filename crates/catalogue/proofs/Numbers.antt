@@ -1,5 +1,5 @@
 -- No two refusals have one number.
-use Rattle.std.proofs.Common.{◌≡◌, ℕ, List, [], ◌∷◌, get_or, sym, refl, ap, ◌∙◌}
+use Rattle.std.proofs.Common.{◌≡◌, ℕ, [], ◌∷◌, get_or, sym, refl, ap, ◌∙◌}
 use Rattle.catalogue.specs.declared.refusal.Refusal.{Refusal}
 use Rattle.catalogue.specs.declared.refusal.Refusal.TheVariants.{TableOutOfRange, TableRepeated, NothingDeclared, TooManyUnfinished, TooManyBegun, UnknownTransaction, NotOpen, RowOutOfRange, ClassOutOfRange, NotDeclared, AlreadyReleased, TooManyWrites, NoReplicaQualifies, PastRecall, UnknownReplica, NothingWaits, HeldBack, NoValue, NotAPermutation, MemoryTooShort, BadNames, BadLine, UnknownCall, BadField, SheetTooLong}
 use Rattle.catalogue.specs.Refusals.{number}

@@ -1,5 +1,5 @@
 -- A good ticket stays good: the transaction is found among the unfinished, and only its own end closes it.
-use Rattle.std.proofs.Common.{◌≡◌, ℕ, ◌+◌, ◌<◌, ◌≤◌, Bool, true, false, cond, not, ◌&&◌, ◌||◌, eqb, leb, ◌⊎◌, List, [], ◌∷◌, ◌++◌, length, Some, None, Option, sym, refl, ap, ◌∙◌, subst, inl, inr, arith}
+use Rattle.std.proofs.Common.{◌≡◌, ℕ, ◌+◌, ◌<◌, ◌≤◌, Bool, true, false, cond, not, ◌||◌, eqb, leb, List, [], ◌∷◌, ◌++◌, length, Some, None, Option, sym, refl, ap, ◌∙◌, subst, arith}
 use Rattle.std.proofs.lemmas.Bool.{eqb-true, eq-eqb, ne_eqb, leb-true, not-true, not_from_false, false≢true, and_parts, cond_both}
 use Rattle.catalogue.specs.declared.row.Row.{Row}
 use Rattle.catalogue.specs.Refusals.{first}
@@ -8,10 +8,10 @@ use Rattle.sequencing.specs.declared.call.Call.{Call}
 use Rattle.versioning.specs.declared.operation.Operation.{Operation}
 use Rattle.versioning.specs.declared.request.Request.{Request}
 use Rattle.versioning.specs.Words.{is_end, ended, advance}
-use Rattle.versioning.specs.Machine.{State, Transaction, find, replace, remove, transaction, course, asking_transaction, asking, kept_if_refused, begin_checks, begin_reply, begin_after, newcomer, beginning_after, write_checks, release_checks, commit_checks, abort_checks, step_checks, stepping, stepped_transaction, all_executed, after}
+use Rattle.versioning.specs.Machine.{State, Transaction, find, replace, remove, transaction, course, asking_transaction, asking, kept_if_refused, begin_checks, begin_reply, begin_after, newcomer, beginning_after, write_checks, release_checks, commit_checks, abort_checks, step_checks, stepping, stepped_transaction, all_executed}
 use Rattle.versioning.proofs.Unfinished.{find_remove_other}
 use Rattle.cluster.specs.Rooms.{rising}
-use Rattle.client.specs.Tickets.{Good, Ends, StaysGood}
+use Rattle.client.specs.Tickets.{Good, StaysGood}
 
 -- it is open, which what stands for a finished one is not
 abbrev is_open : Transaction → Bool

@@ -1,3 +1,5 @@
 // The cluster: transactions over replicas, in versions.
+#![tactic(auto)]
+
 pub mod cluster;
 pub mod transaction;

@@ -1,4 +1,6 @@
 // Copying: the rows of the first replica to every other, as at the opening of a cluster.
+#![tactic(auto)]
+
 ghost use Rattle.std.specs.Prelude.{◌≡◌, ◌<◌, ◌≤◌, length, replicate};
 ghost use Rattle.catalogue.specs.Replicated.{catalogue_of};
 ghost use Rattle.copying.specs.Copied.{copied_row, copied_rows, CopiedTo};

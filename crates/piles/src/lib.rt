@@ -1,3 +1,5 @@
+#![tactic(auto)]
+
 // Stores piled on one another in several orders: what was put is read back.
 #[cfg(test)]
 mod tests {

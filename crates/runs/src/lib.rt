@@ -1,4 +1,6 @@
 // Requests one after the other over a cluster: their answers, and serial order in the contract of a whole run.
+#![tactic(auto)]
+
 ghost use Rattle.std.specs.Prelude.{◌≡◌, ◌+◌, ◌≤◌, ◌++◌, map, length, IfOk, vec_len, vec_capacity, MatchResult};
 ghost use Rattle.catalogue.specs.Replicated.{catalogue_of};
 ghost use Rattle.versioning.specs.Serial.{InSerialOrder};

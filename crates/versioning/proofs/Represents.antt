@@ -10,8 +10,8 @@ use Rattle.sequencing.specs.Sequencer.{nothing_yet, assigned, moved_on, all_assi
 use Rattle.versioning.specs.declared.operation.Operation.{Operation}
 use Rattle.catalogue.specs.Rows.{blank, place}
 use Rattle.sequencing.specs.Modes.{tables}
-use Rattle.versioning.specs.Words.{ended, lets_go, Course, beginning, mode, done, has_let_go, next, ask}
-use Rattle.versioning.specs.Machine.{Transaction, State, replica, version, finished, find, replace, newcomer, beginning_after, asking_transaction, asking, all_executed}
+use Rattle.versioning.specs.Words.{ended, lets_go, Course, beginning, mode, done, has_let_go, ask}
+use Rattle.versioning.specs.Machine.{Transaction, State, replica, finished, find, replace, newcomer, beginning_after, asking_transaction, asking, all_executed}
 use Rattle.versioning.specs.Ledger.{from, amend}
 use Rattle.versioning.proofs.Marks.{Mark, mark, let_go, next_w, next_r, counters}
 use Rattle.versioning.proofs.Ops.{Allowed, leaves}

@@ -17,8 +17,8 @@ room n rest start places small small' two long e =
     let whole = simp (length-append, length-drop) at (ap length e) in
     omega arith
 
-pub overflow-sub-start : goal.overflow-sub-start
-overflow-sub-start c =
+pub overflow_sub-start : goal.overflow_sub-start
+overflow_sub-start c =
     let l = c.loop-rest in
     room c.args.n l.rest l.start l.places (omega arith) (omega arith) c.loop-rest-test.true l.invariant.2 l.invariant.3
 
@@ -33,7 +33,7 @@ digit_more rest start places small two some within =
 pub loop-rest-preserved : goal.loop-rest-preserved
 loop-rest-preserved c =
     let l = c.loop-rest in
-    let some : 1 ≤ l.start = overflow-sub-start c in (
+    let some : 1 ≤ l.start = overflow_sub-start c in (
       omega arith,
       omega arith,
       length-set l.places l.start (48 + l.rest % 10) ∙ l.invariant.2,

@@ -5,7 +5,7 @@ use Rattle.line.specs.Refusals.{told}
 use Rattle.versioning.specs.declared.request.Request.{Request}
 use Rattle.report.specs.Writing.{requests_in}
 use Rattle.report.proofs.requesting.requests.Goals as goal
-use Rattle.report.proofs.requesting.requests.Goals.{in-Ok+in_ok-push, in-default}
+use Rattle.report.proofs.requesting.requests.Goals.{in-Ok+in_ok-push, in_default}
 
 pub loop-reading-preserved : goal.loop-reading-preserved
 loop-reading-preserved c =
@@ -22,9 +22,9 @@ loop-reading-preserved c =
           ∙ append_assoc before (Request.Call w.in-Ok.call ∷ []) (requests_in behind)
           ∙ ap (λ x. before ++ requests_in (told x ∷ behind)) (sym w.in-Ok.is)
           ∙ left
-      | in-default w ↦
+      | in_default w ↦
           ap (λ v. vec_items v ++ requests_in behind) w.requests-is
-          ∙ ap (λ x. before ++ requests_in (told x ∷ behind)) (sym w.in-default.is)
+          ∙ ap (λ x. before ++ requests_in (told x ∷ behind)) (sym w.in_default.is)
           ∙ left
     ]
 

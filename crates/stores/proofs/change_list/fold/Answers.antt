@@ -1,4 +1,4 @@
-use Rattle.std.proofs.Common.{List, set, sym, ap, ◌∙◌, ap₂}
+use Rattle.std.proofs.Common.{List, set, sym, ◌∙◌, ap₂}
 use Rattle.catalogue.specs.declared.row.Row.{Row}
 use Rattle.stores.specs.declared.change_list.Change.{Change}
 use Rattle.stores.specs.Held.{image}

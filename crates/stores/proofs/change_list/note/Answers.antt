@@ -3,7 +3,7 @@ use Rattle.catalogue.specs.declared.row.Row.{Row}
 use Rattle.stores.specs.declared.memory.Memory.{Memory}
 use Rattle.stores.specs.declared.change_list.Changes.{Changes}
 use Rattle.stores.specs.Held.{image, beyond}
-use Rattle.stores.specs.Changes.{laid, noted}
+use Rattle.stores.specs.Changes.{laid}
 use Rattle.stores.proofs.Laid.{noted_more}
 use Rattle.stores.proofs.change_list.note.Goals as goal
 use Rattle.stores.proofs.change_list.note.Goals.{then-changes-ge-MOST_CHANGES, else-changes-ge-MOST_CHANGES}

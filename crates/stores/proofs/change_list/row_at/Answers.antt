@@ -1,4 +1,4 @@
-use Rattle.std.proofs.Common.{◌≡◌, zero, ◌-◌, ◌≢◌, get_or, sym, refl, ap, ◌∙◌, arith}
+use Rattle.std.proofs.Common.{◌≡◌, ◌-◌, ◌≢◌, get_or, sym, ap, ◌∙◌, arith}
 use Rattle.catalogue.specs.Rows.{blank}
 use Rattle.stores.specs.declared.change_list.Change.{Change}
 use Rattle.stores.specs.Held.{image, image_full}

@@ -1,4 +1,4 @@
-use Rattle.std.proofs.Common.{◌≡◌, ◌+◌, Bool, cond, eqb, List, [], ◌∷◌, ◌++◌, vec_items, sym, refl, ap, ◌∙◌, subst, arith}
+use Rattle.std.proofs.Common.{◌≡◌, Bool, cond, eqb, List, [], ◌∷◌, ◌++◌, vec_items, sym, refl, ap, ◌∙◌, subst, arith}
 use Rattle.std.proofs.lemmas.List.{map_push}
 use Rattle.std.proofs.lemmas.Result.{err_from_is_err_and}
 use Rattle.catalogue.specs.Refusals.{number}
@@ -19,7 +19,7 @@ returns-in_err-begun g c =
     let n = begin_refusal st.counts modes in
     let e = c.in_err-begun.ensures.answer in
     let no = (refused n (admitted st.counts modes) (number c.in_err-begun.field-0.0) e).1 in
-    let p = err_from_is_err_and c.from-residual.result c.from-residual.ensures.1 in
+    let p = err_from_is_err_and c.from_residual.result c.from_residual.ensures.1 in
     record {
       answer = rw (p.1, p.2) e;
       after =
@@ -39,23 +39,17 @@ invariant_of-self-2 g c =
     let a = accepted (begin_refusal st.counts modes) (admitted st.counts modes) begun c.in_ok-begun.ensures.answer in
     let counts : counts_of c.begin.new.self ≡ admitted_after st.counts modes = c.begin.ensures.after ∙ ap (λ k. cond (eqb k 0) (admitted_after st.counts modes) st.counts) a.0 in
     let list : transactions_of (vec_items c.push_reserved.new.self) ≡ transactions_of items ++ begun_as modes begun ∷ [] =
-    ap transactions_of c.push_reserved.ensures.items ∙ map_push transaction_of items x ∙ ap (λ (u : Unfinished). transactions_of items ++ u ∷ []) c.new.ensures in (
-      omega (arith, c.push_reserved.ensures.capacity, s.reserved),
-      (
-        omega (arith, c.push_reserved.ensures.len, c.requires),
-        (
-          ap (λ (us : List Unfinished). rising 0 us (counts_of c.begin.new.self).begun) list
-              ∙ ap (λ (k : Counts). rising 0 (transactions_of items ++ begun_as modes begun ∷ []) k.begun) counts
-              ∙ rising_push 0 (transactions_of items) st.counts.begun (begun_as modes begun) s.ordered (ap (λ (b : Begun). b.number) a.1),
-          (
-            subst (λ (us : List Unfinished). Room s.versions (counts_of c.begin.new.self).next us) (sym list)
-                (subst (λ (k : Counts). Room s.versions k.next (transactions_of items ++ begun_as modes begun ∷ [])) (sym counts)
-                (room_push s.versions s.sequencer.next (transactions_of items) modes begun s.room)),
-            tt,
-          ),
-        ),
-      ),
-    )
+    ap transactions_of c.push_reserved.ensures.items ∙ map_push transaction_of items x ∙ ap (λ (u : Unfinished). transactions_of items ++ u ∷ []) c.new.ensures in
+    record {
+      reserved = omega (arith, c.push_reserved.ensures.capacity, s.reserved);
+      few = omega (arith, c.push_reserved.ensures.len, c.requires);
+      ordered = ap (λ (us : List Unfinished). rising 0 us (counts_of c.begin.new.self).begun) list
+          ∙ ap (λ (k : Counts). rising 0 (transactions_of items ++ begun_as modes begun ∷ []) k.begun) counts
+          ∙ rising_push 0 (transactions_of items) st.counts.begun (begun_as modes begun) s.ordered (ap (λ (b : Begun). b.number) a.1);
+      room = subst (λ (us : List Unfinished). Room s.versions (counts_of c.begin.new.self).next us) (sym list)
+          (subst (λ (k : Counts). Room s.versions k.next (transactions_of items ++ begun_as modes begun ∷ [])) (sym counts)
+          (room_push s.versions s.sequencer.next (transactions_of items) modes begun s.room));
+    }
 
 pub returns : goal.returns
 returns g c =

@@ -10,8 +10,8 @@ use Rattle.cluster.proofs.AskedAt.{with_unfinished, asked_reply, asked_state, ri
 use Rattle.cluster.proofs.Standing.{many, shown_at}
 use Rattle.cluster.proofs.cluster.Cluster.ask.Goals as goal
 
-pub index-mut-requires : goal.index-mut-requires
-index-mut-requires g c =
+pub index_mut-requires : goal.index_mut-requires
+index_mut-requires g c =
     let v = c.args.self.now.unfinished in
     omega (arith, c.in-Some.ensures.within, many (vec_items v), v.ok.0)
 
@@ -21,26 +21,20 @@ invariant_of-self g c =
     let items = vec_items s.unfinished in
     let xs = transactions_of items in
     let i = c.in-Some.i in
-    let x = c.index-mut.result.now in
+    let x = c.index_mut.result.now in
     let y = c.ask.new.self in
     let at = c.in-Some.ensures in
-    let shown = shown_at items i x (omega (arith, at.within, many items)) c.index-mut.ensures.value in
+    let shown = shown_at items i x (omega (arith, at.within, many items)) c.index_mut.ensures.value in
     let list : transactions_of (set items i y) ≡ set xs i (transaction_of y) = map-set transaction_of items i y in
-    let number : (transaction_of y).number ≡ (get_or xs i finished).number = ap (λ (u : Unfinished). u.number) c.ask.ensures.after ∙ number_asked (transaction_of x) c.args.operation ∙ sym (ap (λ (u : Unfinished). u.number) shown) in (
-      s.reserved,
-      (
-        s.few,
-        (
-          ap (λ (us : List Unfinished). rising 0 us (counts_of s.sequencer).begun) list ∙ rising_set 0 xs i (counts_of s.sequencer).begun (transaction_of y) at.within number ∙ s.ordered,
-          (
-            (λ j t l.
-                let holding : holds j t (transaction_of y) ≡ holds j t (get_or xs i finished) = ap (holds j t) c.ask.ensures.after ∙ holds_asked x c.args.operation j t ∙ sym (ap (holds j t) shown) in
-                omega (arith, s.room j t l, ap (holders j t) list, holders_set j t xs i (transaction_of y) at.within, ap bit holding)),
-            tt,
-          ),
-        ),
-      ),
-    )
+    let number : (transaction_of y).number ≡ (get_or xs i finished).number = ap (λ (u : Unfinished). u.number) c.ask.ensures.after ∙ number_asked (transaction_of x) c.args.operation ∙ sym (ap (λ (u : Unfinished). u.number) shown) in
+    record {
+      reserved = s.reserved;
+      few = s.few;
+      ordered = ap (λ (us : List Unfinished). rising 0 us (counts_of s.sequencer).begun) list ∙ rising_set 0 xs i (counts_of s.sequencer).begun (transaction_of y) at.within number ∙ s.ordered;
+      room = (λ j t l.
+          let holding : holds j t (transaction_of y) ≡ holds j t (get_or xs i finished) = ap (holds j t) c.ask.ensures.after ∙ holds_asked x c.args.operation j t ∙ sym (ap (holds j t) shown) in
+          omega (arith, s.room j t l, ap (holders j t) list, holders_set j t xs i (transaction_of y) at.within, ap bit holding));
+    }
 
 pub returns : goal.returns
 returns g c =
@@ -48,10 +42,10 @@ returns g c =
     let st = state_of g.R.Replicas.catalogues s in
     let items = vec_items s.unfinished in
     let i = c.in-Some.i in
-    let x = c.index-mut.result.now in
+    let x = c.index_mut.result.now in
     let y = c.ask.new.self in
     let at = c.in-Some.ensures in
-    let shown = shown_at items i x (omega (arith, at.within, many items)) c.index-mut.ensures.value in
+    let shown = shown_at items i x (omega (arith, at.within, many items)) c.index_mut.ensures.value in
     let begun : c.args.number < st.counts.begun = omega (arith, c.begun.ensures) in
     record {
       answer = c.ask.ensures.answer ∙ sym (asked_reply st c.args.number i (transaction_of x) begun at shown c.args.operation);

@@ -19,10 +19,10 @@ execute-requires g c =
     let s = c.args.self.now in
     let items = vec_items s.unfinished in
     let xs = transactions_of items in
-    let x = c.index-mut.result.now in
+    let x = c.index_mut.result.now in
     let j = c.args.replica in
     let within : c.args.i < length items = omega (arith, c.requires.place.0, s.unfinished.ok.0) in
-    let shown = shown_at items c.args.i x within c.index-mut.ensures.value in
+    let shown = shown_at items c.args.i x within c.index_mut.ensures.value in
     let w : waits (course_of x) j ≡ true = sym (ap (λ (u : Unfinished). waits u.course j) shown) ∙ c.requires.waits in
     record {
       place = (omega (arith, (g.R.Replicas.whole s.replicas).few, c.requires.place.1), (c.requires.place.1, w));
@@ -44,29 +44,23 @@ invariant_of-self g c =
     let items = vec_items s.unfinished in
     let i = c.args.i in
     let j = c.args.replica in
-    let x = c.index-mut.result.now in
+    let x = c.index_mut.result.now in
     let y = c.execute.new.self in
     let rows = catalogue_of (g.R.Replicas.catalogues s.replicas) j in
     let within : i < length items = omega (arith, c.requires.place.0, s.unfinished.ok.0) in
     let four : length s.versions ≡ 4 = search rules in
     let lj : j < length s.versions = omega (arith, (g.R.Replicas.whole s.replicas).few, c.requires.place.1) in
-    let shown = shown_at items i x within c.index-mut.ensures.value in
+    let shown = shown_at items i x within c.index_mut.ensures.value in
     let w : waits (course_of x) j ≡ true = sym (ap (λ (u : Unfinished). waits u.course j) shown) ∙ c.requires.waits in
-    let list : vec_items c.remove.new.self ≡ without (set items i y) i = c.remove.ensures.items in (
-      omega (arith, c.remove.ensures.capacity, s.reserved),
-      (
-        omega (arith, c.remove.ensures.len, s.few),
-        (
-          ap (λ (l : List Transaction). rising 0 (transactions_of l) s.sequencer.begun) list
-              ∙ ordered_gone s.versions s.sequencer.next s.sequencer.begun items i j x y rows c.execute.new.versions within lj shown w c.execute.ensures.after c.execute.ensures.versions s.ordered,
-          (
-            subst (λ (l : List Transaction). Room (set s.versions j c.execute.new.versions) s.sequencer.next (transactions_of l)) (sym list)
-                (room_gone s.versions s.sequencer.next s.sequencer.begun items i j x y rows c.execute.new.versions within lj shown w c.execute.ensures.after c.execute.ensures.versions s.room),
-            tt,
-          ),
-        ),
-      ),
-    )
+    let list : vec_items c.remove.new.self ≡ without (set items i y) i = c.remove.ensures.items in
+    record {
+      reserved = omega (arith, c.remove.ensures.capacity, s.reserved);
+      few = omega (arith, c.remove.ensures.len, s.few);
+      ordered = ap (λ (l : List Transaction). rising 0 (transactions_of l) s.sequencer.begun) list
+          ∙ ordered_gone s.versions s.sequencer.next s.sequencer.begun items i j x y rows c.execute.new.versions within lj shown w c.execute.ensures.after c.execute.ensures.versions s.ordered;
+      room = subst (λ (l : List Transaction). Room (set s.versions j c.execute.new.versions) s.sequencer.next (transactions_of l)) (sym list)
+          (room_gone s.versions s.sequencer.next s.sequencer.begun items i j x y rows c.execute.new.versions within lj shown w c.execute.ensures.after c.execute.ensures.versions s.room);
+    }
 
 pub invariant_of-self-else-all_executed : goal.invariant_of-self-else-all_executed
 invariant_of-self-else-all_executed g c =
@@ -74,26 +68,20 @@ invariant_of-self-else-all_executed g c =
     let items = vec_items s.unfinished in
     let i = c.args.i in
     let j = c.args.replica in
-    let x = c.index-mut.result.now in
+    let x = c.index_mut.result.now in
     let y = c.execute.new.self in
     let rows = catalogue_of (g.R.Replicas.catalogues s.replicas) j in
     let within : i < length items = omega (arith, c.requires.place.0, s.unfinished.ok.0) in
     let four : length s.versions ≡ 4 = search rules in
     let lj : j < length s.versions = omega (arith, (g.R.Replicas.whole s.replicas).few, c.requires.place.1) in
-    let shown = shown_at items i x within c.index-mut.ensures.value in
-    let w : waits (course_of x) j ≡ true = sym (ap (λ (u : Unfinished). waits u.course j) shown) ∙ c.requires.waits in (
-      s.reserved,
-      (
-        s.few,
-        (
-          ordered_kept s.versions s.sequencer.next s.sequencer.begun items i j x y rows c.execute.new.versions within lj shown w c.execute.ensures.after c.execute.ensures.versions s.ordered,
-          (
-            room_kept s.versions s.sequencer.next s.sequencer.begun items i j x y rows c.execute.new.versions within lj shown w c.execute.ensures.after c.execute.ensures.versions s.room,
-            tt,
-          ),
-        ),
-      ),
-    )
+    let shown = shown_at items i x within c.index_mut.ensures.value in
+    let w : waits (course_of x) j ≡ true = sym (ap (λ (u : Unfinished). waits u.course j) shown) ∙ c.requires.waits in
+    record {
+      reserved = s.reserved;
+      few = s.few;
+      ordered = ordered_kept s.versions s.sequencer.next s.sequencer.begun items i j x y rows c.execute.new.versions within lj shown w c.execute.ensures.after c.execute.ensures.versions s.ordered;
+      room = room_kept s.versions s.sequencer.next s.sequencer.begun items i j x y rows c.execute.new.versions within lj shown w c.execute.ensures.after c.execute.ensures.versions s.room;
+    }
 
 pub returns-then-all_executed : goal.returns-then-all_executed
 returns-then-all_executed g c =
@@ -101,14 +89,14 @@ returns-then-all_executed g c =
     let items = vec_items s.unfinished in
     let i = c.args.i in
     let j = c.args.replica in
-    let x = c.index-mut.result.now in
+    let x = c.index_mut.result.now in
     let y = c.execute.new.self in
     let cs = g.R.Replicas.catalogues s.replicas in
     let rows = catalogue_of cs j in
     let within : i < length items = omega (arith, c.requires.place.0, s.unfinished.ok.0) in
     let four : length s.versions ≡ 4 = search rules in
     let lj : j < length s.versions = omega (arith, (g.R.Replicas.whole s.replicas).few, c.requires.place.1) in
-    let shown = shown_at items i x within c.index-mut.ensures.value in
+    let shown = shown_at items i x within c.index_mut.ensures.value in
     let w : waits (course_of x) j ≡ true = sym (ap (λ (u : Unfinished). waits u.course j) shown) ∙ c.requires.waits in
     let read : c.index.result.now ≡ y = c.index.ensures ∙ get_or-set_same items i y c.index.result.now within in
     let all : all_executed (length cs) (advance j (course_of x)) ≡ true =
@@ -126,14 +114,14 @@ returns-else-all_executed g c =
     let items = vec_items s.unfinished in
     let i = c.args.i in
     let j = c.args.replica in
-    let x = c.index-mut.result.now in
+    let x = c.index_mut.result.now in
     let y = c.execute.new.self in
     let cs = g.R.Replicas.catalogues s.replicas in
     let rows = catalogue_of cs j in
     let within : i < length items = omega (arith, c.requires.place.0, s.unfinished.ok.0) in
     let four : length s.versions ≡ 4 = search rules in
     let lj : j < length s.versions = omega (arith, (g.R.Replicas.whole s.replicas).few, c.requires.place.1) in
-    let shown = shown_at items i x within c.index-mut.ensures.value in
+    let shown = shown_at items i x within c.index_mut.ensures.value in
     let w : waits (course_of x) j ≡ true = sym (ap (λ (u : Unfinished). waits u.course j) shown) ∙ c.requires.waits in
     let read : c.index.result.now ≡ y = c.index.ensures ∙ get_or-set_same items i y c.index.result.now within in
     let all : all_executed (length cs) (advance j (course_of x)) ≡ false =

@@ -21,7 +21,7 @@ returns-in_err-may_execute g c =
     let s = c.args.self.now in
     let there : c.args.replica < length (g.R.Replicas.catalogues s.replicas) = omega (arith, c.replica_count.ensures, paired_length (g.R.Replicas.catalogues s.replicas) s.versions) in
     let begun : c.args.number < (counts_of s.sequencer).begun = omega (arith, c.begun.ensures) in
-    let p = err_from_is_err_and c.from-residual.result c.from-residual.ensures.1 in
+    let p = err_from_is_err_and c.from_residual.result c.from_residual.ensures.1 in
     rw (p.1, p.2) (step_refused g.R.Replicas.catalogues s c.args.number c.args.replica c.in-Some.i c.index.result.now there begun c.in-Some.ensures c.index.ensures _ c.in_err-may_execute.ensures)
 
 pub returns : goal.returns

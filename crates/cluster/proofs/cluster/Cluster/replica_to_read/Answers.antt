@@ -1,6 +1,10 @@
-use Rattle.std.proofs.Common.{◌<◌, vec_items, arith}
+use Rattle.std.proofs.Common.{◌≡◌, ℕ, ◌<◌, Result, Err, vec_items, sym, ap, ◌∙◌, subst, arith}
 use Rattle.std.proofs.lemmas.Result.{err_from_is_err_and}
+use Rattle.catalogue.specs.declared.refusal.Refusal.{Refusal}
+use Rattle.catalogue.specs.Refusals.{told}
 use Rattle.sequencing.specs.Sequencer.{counts_of}
+use Rattle.versioning.specs.Machine.{and_then, read_reply}
+use Rattle.cluster.specs.View.{state_of, fetched}
 use Rattle.cluster.proofs.Reading.{read_refused, read_unqualified, read_chosen}
 use Rattle.cluster.proofs.Standing.{many}
 use Rattle.cluster.proofs.cluster.Cluster.replica_to_read.Goals as goal
@@ -14,8 +18,10 @@ pub returns-in_err-may_read : goal.returns-in_err-may_read
 returns-in_err-may_read g c =
     let s = c.args.self.now in
     let begun : c.args.number < (counts_of s.sequencer).begun = omega (arith, c.begun.ensures) in
-    let p = err_from_is_err_and c.from-residual.result c.from-residual.ensures.1 in
-    rw (p.1, p.2) (read_refused g.R.Replicas.catalogues s c.args.number c.in-Some.i c.args.table c.args.row c.index-transaction.result.now begun c.in-Some.ensures c.index-transaction.ensures _ c.in_err-may_read.ensures)
+    let p = err_from_is_err_and c.from_residual.result c.from_residual.ensures.1 in
+    let same : c.from_residual.result ≡ Err c.in_err-may_read.field-0.0 = p.1 ∙ ap Err p.2 in
+    subst (λ (r : Result ℕ Refusal). and_then (told r) (fetched (g.R.Replicas.catalogues s.replicas) c.args.table c.args.row) ≡ read_reply (state_of g.R.Replicas.catalogues s) c.args.number c.args.table c.args.row) (sym same)
+    (read_refused g.R.Replicas.catalogues s c.args.number c.in-Some.i c.args.table c.args.row c.index-transaction.result.now begun c.in-Some.ensures c.index-transaction.ensures _ c.in_err-may_read.ensures)
 
 pub returns-in-Some-choose : goal.returns-in-Some-choose
 returns-in-Some-choose g c =

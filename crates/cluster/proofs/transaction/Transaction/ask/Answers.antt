@@ -14,28 +14,20 @@ invariant_of-self c =
     let op = c.args.operation in
     let accepted : first (may_ask (course_of x) op) ≡ 0 = search rules in
     let wide : x.count + 1 < length x.costs = search (rules, room x op accepted, x.long) in
-    let phase : is_ended c.match-this.phase ≡ is_end op = search rules in (
-      length-set x.asked x.count op ∙ x.long,
-      (
-        omega (arith, room x op accepted, x.long),
-        (
-          phased_now x op accepted (is_ended c.match-this.phase) phase,
-          (
-            orderly_now x op accepted,
-            (
-              modest_now x op accepted,
-              (
-                tallied_now x op accepted,
-                ((λ j. omega (arith, x.within j)), (priced_more x.costs x.asked x.count op c.cost.result c.cost.ensures.is (room x op accepted) wide x.priced, tt)),
-              ),
-            ),
-          ),
-        ),
-      ),
-    )
+    let phase : is_ended c.match-this.phase ≡ is_end op = search rules in
+    record {
+      long = length-set x.asked x.count op ∙ x.long;
+      size = omega (arith, room x op accepted, x.long);
+      phased = phased_now x op accepted (is_ended c.match-this.phase) phase;
+      allowed = orderly_now x op accepted;
+      modest = modest_now x op accepted;
+      tallied = tallied_now x op accepted;
+      within = (λ j. omega (arith, x.within j));
+      priced = priced_more x.costs x.asked x.count op c.cost.result c.cost.ensures.is (room x op accepted) wide x.priced;
+    }
 
-pub overflow-add-self : goal.overflow-add-self
-overflow-add-self c =
+pub overflow_add-self : goal.overflow_add-self
+overflow_add-self c =
     let x = c.args.self.now in
     omega (arith, all_most x, x.size, c.cost.ensures.most)
 

@@ -2,8 +2,8 @@ use Rattle.std.proofs.Common.{arith}
 use Rattle.cluster.proofs.Priced.{all_most, left_is}
 use Rattle.cluster.proofs.transaction.Transaction.cost_left.Goals as goal
 
-pub overflow-sub-result : goal.overflow-sub-result
-overflow-sub-result c = omega (arith, left_is c.args.self.now c.args.replica)
+pub overflow_sub-result : goal.overflow_sub-result
+overflow_sub-result c = omega (arith, left_is c.args.self.now c.args.replica)
 
 pub returns : goal.returns
 returns c =

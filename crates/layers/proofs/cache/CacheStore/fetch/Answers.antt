@@ -1,5 +1,4 @@
-use Rattle.std.proofs.Common.{Some, Option, unwrap_or, sym, refl, ap, ◌∙◌}
-use Rattle.catalogue.specs.declared.row.Row.{Row}
+use Rattle.std.proofs.Common.{refl, ap, ◌∙◌}
 use Rattle.layers.specs.Lines.{overlaid}
 use Rattle.layers.proofs.Overlay.{fetched_line, fetched_below}
 use Rattle.layers.proofs.cache.CacheStore.fetch.Goals as goal

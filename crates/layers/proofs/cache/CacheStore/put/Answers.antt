@@ -1,5 +1,4 @@
-use Rattle.std.proofs.Common.{◌≡◌, ◌/◌, ◌%◌, List, length, set, Some, sym, ap, ◌∙◌, rules}
-use Rattle.catalogue.specs.declared.row.Row.{Row}
+use Rattle.std.proofs.Common.{◌≡◌, ◌/◌, ◌%◌, length, set, Some, sym, ap, ◌∙◌, rules}
 use Rattle.catalogue.proofs.Placed.{put_told_in, put_in}
 use Rattle.layers.specs.Lines.{overlaid}
 use Rattle.layers.proofs.Overlay.{overlay_evicted}

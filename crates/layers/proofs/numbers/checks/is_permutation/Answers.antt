@@ -1,4 +1,4 @@
-use Rattle.std.proofs.Common.{◌≡◌, sym, ap, ◌∙◌, arith, rules}
+use Rattle.std.proofs.Common.{◌≡◌, sym, ap, ◌∙◌, arith}
 use Rattle.layers.specs.Numbers.{all_below, in_order}
 use Rattle.layers.proofs.Permuted.{all_more, all_miss}
 use Rattle.layers.proofs.numbers.checks.is_permutation.Goals as goal

@@ -13,7 +13,7 @@ returns g c =
       answer =
           c.fetch.ensures.answer
           ∙ ap (λ t. fetch_reply rows t c.args.row) c.of.ensures
-          ∙ fetched_moved ns.below ns.once ns.eight rows c.args.table c.args.row c.in_ok--place.-place c.in_ok--place.ensures.found;
+          ∙ fetched_moved ns.below ns.once ns.eight rows c.args.table c.args.row c.in_ok-_place._place c.in_ok-_place.ensures.found;
       same = ap (renumbered ns.below) c.fetch.ensures.same;
       kept = c.fetch.ensures.kept;
     }

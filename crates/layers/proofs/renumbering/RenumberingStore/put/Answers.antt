@@ -12,8 +12,8 @@ returns g c =
     let t = c.args.table in
     let r = c.args.row in
     let v = c.args.value in
-    let place = c.in_ok--place.-place in
-    let found = c.in_ok--place.ensures.found in
+    let place = c.in_ok-_place._place in
+    let found = c.in_ok-_place.ensures.found in
     record {
       answer = c.put.ensures.answer ∙ ap (λ k. put_reply k r) c.of.ensures ∙ put_told_moved ns.below ns.once ns.eight rows t r place found;
       after =

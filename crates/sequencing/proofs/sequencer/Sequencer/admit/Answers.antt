@@ -1,4 +1,4 @@
-use Rattle.std.proofs.Common.{ℕ, ◌+◌, ◌≤◌, List, sym, subst, arith}
+use Rattle.std.proofs.Common.{ℕ, ◌+◌, ◌≤◌, List, sym, subst}
 use Rattle.sequencing.specs.declared.sequencer.Next.{Next}
 use Rattle.sequencing.specs.Sequencer.{next_at, all_moved_on}
 use Rattle.sequencing.proofs.Moved.{counted_more}
