@@ -3,7 +3,7 @@ ghost use Rattle.catalogue.specs.Refusals.{told};
 ghost use Rattle.line.specs.Refusals.{told as told_Line};
 ghost use Rattle.report.specs.Writing.{Answered, line_with, rest_with, requests_in, written_from};
 
-use crate::line::ReportLine;
+use crate::report_line::ReportLine;
 use catalogue::kind::counter::Counter;
 use catalogue::refusal::Refusal;
 use sequencing::call::Call;

@@ -1,4 +1,4 @@
-use Rattle.std.proofs.Common.{◌≡◌, List, ◌++◌, map, length, vec_items, sym, ap, ◌∙◌}
+use Rattle.std.proofs.Common.{◌≡◌, ◌++◌, map, length, vec_items, sym, ap, ◌∙◌}
 use lib.ListN.{length-map}
 use Rattle.catalogue.specs.Refusals.{told}
 use Rattle.line.specs.Refusals.{told as told_Line}

@@ -1,4 +1,4 @@
-use Rattle.std.proofs.Common.{◌≡◌, ◌-◌, ◌<◌, ◌≤◌, List, map, length, get_or, take, drop, None, sym, ap, ◌∙◌, subst, arith, length-drop}
+use Rattle.std.proofs.Common.{◌-◌, ◌<◌, ◌≤◌, map, length, drop, None, sym, ap, ◌∙◌, subst, arith, length-drop}
 use Rattle.std.proofs.lemmas.List.{get_or-map, drop-map, take_all}
 use Rattle.catalogue.specs.Refusals.{told}
 use Rattle.line.specs.Refusals.{told as told_Line}

@@ -1,11 +1,11 @@
-use Rattle.std.proofs.Common.{◌≡◌, ℕ, ◌+◌, ◌≤◌, List, [], ◌∷◌, ◌++◌, map, length, get_or, drop, Ok, vec_items, sym, ap, ◌∙◌, append-nil, arith}
+use Rattle.std.proofs.Common.{◌+◌, ◌≤◌, [], ◌∷◌, ◌++◌, map, length, get_or, drop, Ok, vec_items, sym, ap, ◌∙◌, append-nil, arith}
 use lib.ListN.{length-map}
 use Rattle.std.proofs.lemmas.List.{at_drop_more, at_drop_all}
 use Rattle.catalogue.specs.Refusals.{told}
 use Rattle.sequencing.specs.declared.call.Call.{Call}
 use Rattle.line.specs.Refusals.{told as told_Line}
 use Rattle.sheet.specs.Sheets.{counted_on}
-use Rattle.report.specs.Writing.{requests_in, written_from, line_with, rest_with}
+use Rattle.report.specs.Writing.{requests_in, written_from, line_with}
 use Rattle.report.specs.Lines.{line_text}
 use Rattle.report.proofs.Written.{answered_first, answered_rest, text_more}
 use Rattle.report.proofs.writing.write_lines.Goals as goal
