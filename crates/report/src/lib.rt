@@ -1,4 +1,6 @@
 // What is printed for a run sheet: a line for each of its lines, with the answer to the call.
+#![tactic(auto)]
+
 mod answering;
 pub mod cell;
 mod decimal;
