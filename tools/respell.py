@@ -15,6 +15,21 @@ TOKEN = re.compile(NAME)
 KEYWORDS = r"(?:(?:abbrev|unfoldable|pub|record|data)\s+)*"
 DECLARED = re.compile(r"^\s*" + KEYWORDS + "(" + NAME + r")(?=[\s:])")
 ALIAS = re.compile(r"\bas (" + NAME + ")")
+# Of these the two that would fall together are never meant in one place: a function or variant of the sources and a word of specs/ or proofs/.
+ALLOWED = {
+    "Nothing-waits",
+    "all-executed",
+    "bad-field",
+    "cost-left",
+    "count-writes",
+    "declares-any",
+    "is-write",
+    "lets-go-of",
+    "may-abort",
+    "may-execute",
+    "may-release",
+    "serial-order",
+}
 COMMENT = {"antt": re.compile(r"--(?:\s.*)?$"), "rt": re.compile(r"//.*$")}
 
 
@@ -90,10 +105,9 @@ def main():
     names = {name: respelled(name) for name in found}
     taken = {t for p in files for line in texts[p] for t in TOKEN.findall(code(line, kinds[p]))}
     together = [n for n in sorted(names) if names[n] in taken] + [n for n in sorted(names) if list(names.values()).count(names[n]) > 1]
-    allowed = set(sys.argv[1:])
     for n in together:
-        print(f"falls together: {n} with {names[n]}" + (" (allowed)" if n in allowed else ""))
-    if set(together) - allowed:
+        print(f"falls together: {n} with {names[n]}" + (" (allowed)" if n in ALLOWED else ""))
+    if set(together) - ALLOWED:
         return 1
     for p in files:
         ghost = ghost_lines(texts[p]) if kinds[p] == "rt" else [True] * len(texts[p])

@@ -1,6 +1,6 @@
 -- Several catalogues, one for each replica.
 use Rattle.std.specs.Prelude.{◌≡◌, ℕ, ◌≤◌, Bool, cond, not, List, [], ◌∷◌, length, Option, ◌==◌, nat_lt, slice_index_or, slice_set}
-use Rattle.std.specs.List.{AllByRecursion as All}
+use Rattle.std.specs.List.{AllByRecursion}
 use Rattle.catalogue.specs.declared.refusal.Refusal.{Refusal}
 use Rattle.catalogue.specs.declared.row.Row.{Row}
 use Rattle.catalogue.specs.Refusals.{first, unless_refused}
@@ -10,7 +10,7 @@ use Rattle.catalogue.specs.Rows.{blank, place, place_checks}
 pub record Whole (catalogues : List (List Row)) : Type 0 where
   pub some : 1 ≤ length catalogues
   pub few : length catalogues ≤ 4
-  pub full : All (λ rows. length rows ≡ 512) catalogues
+  pub full : AllByRecursion (λ rows. length rows ≡ 512) catalogues
 
 -- A replica that is not there is refused, then a table and a row number as a store does.
 abbrev pub replica_checks : List (List Row) → ℕ → ℕ → ℕ → List (Bool × Refusal)

@@ -1,6 +1,6 @@
 -- Which refusals a good ticket can meet.
 use Rattle.std.proofs.Common.{◌≡◌, ℕ, Bool, true, false, cond, not, eqb, List, [], ◌∷◌, ◌++◌, is_some, Some, None, Option, sym, refl, ap, ◌∙◌, subst, inl, inr}
-use Rattle.std.specs.List.{AllByRecursion as All}
+use Rattle.std.specs.List.{AllByRecursion}
 use Rattle.std.proofs.lemmas.Bool.{lt-ltb, eqb-false, cond_both}
 use Rattle.catalogue.specs.declared.refusal.Refusal.{Refusal}
 use Rattle.catalogue.specs.declared.row.Row.{Row}
@@ -31,7 +31,7 @@ meet : (n : ℕ) → eqb n 6 ≡ false → eqb n 7 ≡ false → CanMeet n
 meet n u o = record { known = eqb-false n 6 u; still_open = eqb-false n 7 o }
 
 -- the first refusal of checks none of which gives either of the two
-any_meets : (checks : List (Bool × Refusal)) → All (λ c. CanMeet (number c.1)) checks → CanMeet (first checks)
+any_meets : (checks : List (Bool × Refusal)) → AllByRecursion (λ c. CanMeet (number c.1)) checks → CanMeet (first checks)
 any_meets [] a = meet 0 refl refl
 any_meets (c ∷ cs) a = cond_both c.0 (number c.1) (first cs) CanMeet (λ e. a.0) (λ e. any_meets cs a.1)
 

@@ -1,4 +1,3 @@
 pub mod Cut
-pub mod Compared
 mod Digits
 mod Known

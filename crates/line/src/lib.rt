@@ -1,3 +1,5 @@
 // A line of a run sheet: its seven fields, the call that they make, and the refusal that tells which rule is broken where.
+#![tactic(auto)]
+
 pub mod fields;
 pub mod refusal;

@@ -1,11 +1,10 @@
 -- A report line by line: what one line adds to the text and takes from the answers, and that the machine's answers make the report.
-use Rattle.std.proofs.Common.{◌≡◌, ℕ, suc, ◌+◌, ◌-◌, List, [], ◌∷◌, ◌++◌, length, drop, Some, None, sym, refl, ap, ◌∙◌, append_assoc, arith, length-drop}
+use Rattle.std.proofs.Common.{◌≡◌, ℕ, suc, List, [], ◌∷◌, ◌++◌, length, Some, None, refl, ap, append_assoc, arith, length-drop}
 use Rattle.catalogue.specs.declared.kind.counter.Counter.{Counter}
 use Rattle.sequencing.specs.declared.call.Call.{Call}
 use Rattle.line.specs.Refusals.{Told}
 use Rattle.sheet.specs.Sheets.{counted_on}
 use Rattle.versioning.specs.Machine.{State, Answer, call_reply, call_after}
-use Rattle.report.specs.declared.line.ReportLine.{ReportLine}
 use Rattle.report.specs.Lines.{answered, unread, line_text}
 use Rattle.report.specs.Reports.{report_from}
 use Rattle.report.specs.Writing.{Requests, Answered, requests_in, answers_to, line_with, rest_with, written_from}

@@ -1,10 +1,10 @@
 -- One line of a report, and its text.
-use Rattle.std.specs.Prelude.{ℕ, List, [], ◌∷◌, ◌++◌, Some, None, codes, decimal, Option}
+use Rattle.std.specs.Prelude.{ℕ, List, [], ◌++◌, Some, None, codes, decimal}
 use Rattle.sequencing.specs.declared.call.Call.{Call}
 use Rattle.versioning.specs.declared.request.Outcome.{Outcome}
 use Rattle.versioning.specs.Machine.{Answer}
 use Rattle.report.specs.declared.cell.Cell.{Cell}
-use Rattle.report.specs.declared.line.ReportLine.{ReportLine}
+use Rattle.report.specs.declared.report_line.ReportLine.{ReportLine}
 
 -- The transaction that a call names: every call but a begin does.
 abbrev pub named : Call → Cell

@@ -7,7 +7,7 @@ use Rattle.sequencing.specs.declared.call.Call.{Call}
 use Rattle.line.specs.Refusals.{Told}
 use Rattle.sheet.specs.Sheets.{counted_on, sheet_entries}
 use Rattle.versioning.specs.Machine.{State, start, call_reply, call_after}
-use Rattle.report.specs.declared.line.ReportLine.{ReportLine}
+use Rattle.report.specs.declared.report_line.ReportLine.{ReportLine}
 use Rattle.report.specs.Lines.{answered, unread, line_text}
 
 -- The rows of a catalogue in which every row is zero.

@@ -1,6 +1,5 @@
 -- How a report is written: by the answers to all the calls of a sheet, which are taken one by one.
 use Rattle.std.specs.Prelude.{ℕ, ◌<◌, List, [], ◌∷◌, ◌++◌, length, drop, Some, None, slice_index_or}
-use Rattle.catalogue.specs.declared.row.Row.{Row}
 use Rattle.catalogue.specs.declared.kind.counter.Counter.{Counter}
 use Rattle.catalogue.specs.Kinds.{counter_packed, counter_unpacked}
 use Rattle.sequencing.specs.declared.call.Call.{Call}
@@ -9,7 +8,7 @@ use Rattle.sheet.specs.Sheets.{counted_on}
 use Rattle.versioning.specs.declared.request.Request.{Request}
 use Rattle.versioning.specs.Machine.{State, Answer}
 use Rattle.runs.specs.Runs.{replies}
-use Rattle.report.specs.declared.line.ReportLine.{ReportLine}
+use Rattle.report.specs.declared.report_line.ReportLine.{ReportLine}
 use Rattle.report.specs.Lines.{answered, unread, line_text}
 
 -- Requests that speak of counters, where they speak of values at all.

@@ -4,7 +4,7 @@
 mod answering;
 pub mod cell;
 mod decimal;
-pub mod line;
+pub mod report_line;
 mod requesting;
 pub mod running;
 mod writing;

@@ -1,9 +1,9 @@
 ghost use Rattle.std.specs.Prelude.{◌≡◌, ◌++◌, map, length, OnOk};
 ghost use Rattle.catalogue.specs.Refusals.{told};
-ghost use Rattle.line.specs.Refusals.{told as told_Line};
+ghost use Rattle.line.specs.Refusals.{told as told_line};
 ghost use Rattle.report.specs.Writing.{Answered, line_with, rest_with, requests_in, written_from};
 
-use crate::line::ReportLine;
+use crate::report_line::ReportLine;
 use catalogue::kind::counter::Counter;
 use catalogue::refusal::Refusal;
 use sequencing::call::Call;
@@ -17,9 +17,9 @@ fn next_line<'a>(
     reading: Result<Call, SheetRefusal>,
     answers: &'a [Result<Outcome<Counter>, Refusal>],
 ) -> (ReportLine, &'a [Result<Outcome<Counter>, Refusal>])
-    requires { Answered (told_Line reading) answers.now }
-    ensures line { result.0 ≡ line_with line (told_Line reading) (map told answers.now) }
-    ensures rest { map told result.1.now ≡ rest_with (told_Line reading) (map told answers.now) }
+    requires { Answered (told_line reading) answers.now }
+    ensures line { result.0 ≡ line_with line (told_line reading) (map told answers.now) }
+    ensures rest { map told result.1.now ≡ rest_with (told_line reading) (map told answers.now) }
 {
     match reading {
         Ok(call) => (ReportLine::answered(line, call, answers[0]), &answers[1..]),
@@ -33,8 +33,8 @@ pub(crate) fn write_lines(
     entries: &[Result<Call, SheetRefusal>],
     answers: &[Result<Outcome<Counter>, Refusal>],
 ) -> Result<(), AllocError>
-    requires { length answers.now ≡ length (requests_in (map told_Line entries.now)) }
-    ensures { OnOk result (out.new.items ≡ out.old.items ++ written_from 2 (map told_Line entries.now) (map told answers.now)) }
+    requires { length answers.now ≡ length (requests_in (map told_line entries.now)) }
+    ensures { OnOk result (out.new.items ≡ out.old.items ++ written_from 2 (map told_line entries.now) (map told answers.now)) }
 {
     let mut line = 2u32;
     let mut left = answers;

@@ -1,5 +1,5 @@
 -- A sheet's entries, line by line.
-use Rattle.std.proofs.Common.{◌≡◌, ℕ, ◌+◌, true, false, eqb, List, [], ◌∷◌, ◌++◌, is_some, Some, None, sym, refl, ap, ◌∙◌, append_assoc}
+use Rattle.std.proofs.Common.{◌≡◌, ℕ, true, false, eqb, List, [], ◌∷◌, ◌++◌, is_some, Some, None, sym, refl, ap, ◌∙◌, append_assoc}
 use Rattle.sequencing.specs.declared.call.Call.{Call}
 use Rattle.line.specs.Refusals.{Told}
 use Rattle.sheet.specs.Sheets.{Line, entries, line_reply, counted_on, first_reply, first_entry, Standing, skip_after, next_after}

@@ -1,6 +1,6 @@
 -- The oldest transaction unfinished at a replica is never held back there, so the replica can be emptied.
 use Rattle.std.proofs.Common.{◌≡◌, ℕ, zero, suc, ◌+◌, ◌<◌, ◌≤◌, Bool, true, false, cond, not, ◌&&◌, List, [], ◌∷◌, ◌++◌, length, replicate, Some, Option, sym, refl, ap, ◌∙◌, subst, ap₂, append_assoc, arith, length-drop}
-use Rattle.std.specs.List.{AllByRecursion as All}
+use Rattle.std.specs.List.{AllByRecursion}
 use Rattle.std.proofs.ByRecursion.{All-append}
 use Rattle.std.proofs.lemmas.List.{take_all}
 use Rattle.std.proofs.lemmas.Bool.{eq-eqb, le-ltb, lt-ltb, or_parts, or_from, or_right, and_right, not-false, not_from_true}
@@ -106,7 +106,7 @@ module _ {V K : Type 0} (pack : V → Row) (unpack : K → Row → Option V) whe
 
     -- and m times
     steps_run : (m : ℕ) (ns : List Course) (c : Course) (earlier : List Course) (k : ℕ) (l : Ledger (Gave V K)) (s : State) → Inv o n pack unpack l s → l.begun ≡ ns ++ (c ∷ earlier) → k ≡ length earlier → some (λ e. not (ended (done e j))) earlier ≡ false → c.executed j + m ≤ length c.asked →
-        All Accepted (answered pack unpack s (replicate m (Request.Call (Call.Step k j)))) × ((ledger pack (answered pack unpack s (replicate m (Request.Call (Call.Step k j)))) l).begun ≡ ns ++ (advanced j m c ∷ earlier))
+        AllByRecursion Accepted (answered pack unpack s (replicate m (Request.Call (Call.Step k j)))) × ((ledger pack (answered pack unpack s (replicate m (Request.Call (Call.Step k j)))) l).begun ≡ ns ++ (advanced j m c ∷ earlier))
     steps_run zero ns c earlier k l s i e kk h w = (tt, e)
     steps_run (suc m) ns c earlier k l s i e kk h w =
         let q : Request V K = Request.Call (Call.Step k j) in
@@ -118,7 +118,7 @@ module _ {V K : Type 0} (pack : V → Row) (unpack : K → Row → Option V) whe
         ((accepted, r.0), r.1)
 
     all_run : (cs ns : List Course) (l : Ledger (Gave V K)) (s : State) → Inv o n pack unpack l s → l.begun ≡ ns ++ cs → some (λ c. not (ended c.asked)) cs ≡ false →
-        All Accepted (answered pack unpack s (catching_up j cs)) × ((ledger pack (answered pack unpack s (catching_up j cs)) l).begun ≡ ns ++ caught j cs)
+        AllByRecursion Accepted (answered pack unpack s (catching_up j cs)) × ((ledger pack (answered pack unpack s (catching_up j cs)) l).begun ≡ ns ++ caught j cs)
     all_run [] ns l s i e h = (tt, e)
     all_run (c ∷ earlier) ns l s i e h =
         let p = or_parts (not (ended c.asked)) (some (λ x. not (ended x.asked)) earlier) h in
@@ -130,7 +130,7 @@ module _ {V K : Type 0} (pack : V → Row) (unpack : K → Row → Option V) whe
         let within : c.executed j ≤ length c.asked = (valid_behind ns (c ∷ earlier) (subst Valid e i.rep.valid)).0.within j in
         let b = steps_run (length (waiting c j)) ns c (caught j earlier) (length earlier) l' s' (every_run o n pack unpack qs l s i) (a.1 ∙ append_assoc ns (c ∷ []) (caught j earlier)) (sym (length_caught j earlier)) (all_ended j earlier p.1) (omega (arith, length-drop (c.executed j) c.asked)) in
         let whole = answered_append s qs rs in (
-          subst (All Accepted) (sym whole) (All-append Accepted (answered pack unpack s qs) (answered pack unpack s' rs) a.0 b.0),
+          subst (AllByRecursion Accepted) (sym whole) (All-append Accepted (answered pack unpack s qs) (answered pack unpack s' rs) a.0 b.0),
           ap (λ xs. (ledger pack xs l).begun) whole ∙ ap (λ x. x.begun) (ledger_append (answered pack unpack s qs) (answered pack unpack s' rs) l) ∙ b.1,
         )
 

@@ -1,7 +1,7 @@
 -- One row of the catalogue through the transactions: serially, and as executed at a replica.
 use Rattle.std.proofs.Common.{◌≡◌, ℕ, ◌+◌, ◌-◌, ◌*◌, ◌/◌, ◌%◌, ◌<◌, ◌≤◌, Bool, true, false, cond, not, ◌&&◌, ◌||◌, eqb, List, [], ◌∷◌, ◌++◌, length, get_or, take, set, sym, refl, ap, ◌∙◌, subst, inl, inr, arith, length-set}
 use mathlib.Core.Bool.{false≢true}
-use Rattle.std.specs.List.{AllByRecursion as All}
+use Rattle.std.specs.List.{AllByRecursion}
 use Rattle.std.proofs.lemmas.List.{take_all, get_or-set_same, get_or-set_other, ext_get_or}
 use Rattle.std.proofs.ByRecursion.{All-from_get_or}
 use Rattle.std.proofs.lemmas.Bool.{eqb-true, eqb-false, ltb-false, cases_Bool, or_parts, or_right}
@@ -50,7 +50,7 @@ in_range m before (Operation.Release t) a = tt
 in_range m before Operation.Commit a = tt
 in_range m before Operation.Abort a = tt
 
-pub all_in_range : (m : ℕ → Mode) (ops : List Operation) → Sound m ops → All InRange ops
+pub all_in_range : (m : ℕ → Mode) (ops : List Operation) → Sound m ops → AllByRecursion InRange ops
 all_in_range m ops s = All-from_get_or InRange ops Operation.Commit (λ i h. in_range m (take i ops) (get_or ops i Operation.Commit) (s i h))
 
 pub length_written : (ops : List Operation) (rows : List Row) → length (written ops rows) ≡ length rows
@@ -61,7 +61,7 @@ length_written (Operation.Commit ∷ ops) rows = length_written ops rows
 length_written (Operation.Abort ∷ ops) rows = length_written ops rows
 
 module _ (t r : ℕ) (ht : t < 8) (hr : r < 64) where
-  pub written_cell : (ops : List Operation) (rows : List Row) → length rows ≡ 512 → All InRange ops → get_or (written ops rows) (place t r) blank ≡ puts t r ops (get_or rows (place t r) blank)
+  pub written_cell : (ops : List Operation) (rows : List Row) → length rows ≡ 512 → AllByRecursion InRange ops → get_or (written ops rows) (place t r) blank ≡ puts t r ops (get_or rows (place t r) blank)
   written_cell [] rows l a = refl
   written_cell (Operation.Write u q v c ∷ ops) rows l a =
       written_cell ops (set rows (place u q) v) (length-set rows (place u q) v ∙ l) a.1 ∙ ap (puts t r ops) (set_cell rows t r u q v l ht hr a.0.0 a.0.1)

@@ -3,7 +3,7 @@ use Rattle.std.proofs.Common.{◌≡◌, ℕ, zero, suc, ◌<◌, ◌≤◌, Boo
 use mathlib.Core.Bool.{false≢true}
 use lib.ListN.{length-replicate, get_or-replicate}
 use Rattle.std.specs.Option.{option_map}
-use Rattle.std.specs.List.{AllByRecursion as All}
+use Rattle.std.specs.List.{AllByRecursion}
 use Rattle.std.proofs.ByRecursion.{All-weaker}
 use Rattle.std.proofs.lemmas.Bool.{eqb-true, ne_eqb, cases_lt, or_from, and_parts, ltb-true, lt-ltb, not-false, not-true, not_from_false}
 use Rattle.catalogue.specs.declared.row.Row.{Row}
@@ -49,7 +49,7 @@ module _ (o : List Row) (n : ℕ) where
   -- what the ledger tells is what the state is, and what a read gave agrees with the serial run
   module _ {G : Type 0} (agrees : G → Row → Type 0) where
     abbrev pub Kept : State → List Course → List (Reading G) → Type 0
-    Kept s cs rds = Represents o n cs s × All (Good o n agrees cs) rds
+    Kept s cs rds = Represents o n cs s × AllByRecursion (Good o n agrees cs) rds
 
     pub asked : (op : Operation) (s : State) (rds : List (Reading G)) (cs : List Course) (k : ℕ) → k < length cs → Kept s cs rds → ended (course s k).asked ≡ false → Allowed (mode (course s k)) (course s k).asked op → Kept (asking s k op) (amend k (ask op) cs) rds
     asked op s rds =
@@ -84,7 +84,7 @@ module _ (o : List Row) (n : ℕ) where
   module _ {V K : Type 0} (pack : V → Row) (unpack : K → Row → Option V) where
     pub record Inv (l : Ledger (Gave V K)) (s : State) : Type 0 where
       pub rep : Represents o n l.begun s
-      pub good : All (Good o n (Agrees unpack) l.begun) l.readings
+      pub good : AllByRecursion (Good o n (Agrees unpack) l.begun) l.readings
 
     -- a request whose answer its checks decide
     by_checks : {A : Type 0} (m : ℕ) (x : A) (f : A → Outcome V) (q : Request V K) (l : Ledger (Gave V K)) (s later : State) → Inv l s → (m ≡ 0 → Inv (enter pack q (f x) l) later) → Inv (note pack q (as_outcome f (unless_refused m x)) l) (kept_if_refused m s later)

@@ -1,6 +1,6 @@
 -- The serial run, and what holds of every run of the machine: its answers are those of the serial run.
 use Rattle.std.specs.Prelude.{◌≡◌, ℕ, ◌<◌, Bool, true, false, cond, not, ◌&&◌, ◌↔◌, List, [], ◌∷◌, ◌++◌, length, take, replicate, Some, Option, slice_index_or, slice_set}
-use Rattle.std.specs.List.{AllByRecursion as All}
+use Rattle.std.specs.List.{AllByRecursion}
 use Rattle.catalogue.specs.declared.row.Row.{Row}
 use Rattle.catalogue.specs.declared.refusal.Refusal.{Refusal}
 use Rattle.catalogue.specs.Refusals.{number}
@@ -61,7 +61,7 @@ module _ {V K : Type 0} (pack : V → Row) (unpack : K → Row → Option V) whe
   -- What is promised of the opening rows, a history, and the rows that each replica holds at its end.
   pub record InSerialOrder (opening : List Row) (history : History V K) (catalogues : List (List Row)) : Type 0 where
     -- every row or value read is the one that the read finds in the serial run
-    pub reads : All (λ rd. Finds (Agrees unpack) opening rd (from rd.number (begun_in pack history))) (reads_in pack history)
+    pub reads : AllByRecursion (λ rd. Finds (Agrees unpack) opening rd (from rd.number (begun_in pack history))) (reads_in pack history)
     -- a replica at which nothing waits holds exactly the rows with which the serial run ends
     pub rows : (j : ℕ) → j < length catalogues → NothingWaits j (begun_in pack history) → catalogue_of catalogues j ≡ serial opening (begun_in pack history)
     -- a step of an operation that waits is refused with 17 exactly when an earlier transaction conflicts with it and has not let go
@@ -94,7 +94,7 @@ catching_up j (c ∷ earlier) =
 module _ {V K : Type 0} (pack : V → Row) (unpack : K → Row → Option V) where
   -- What these steps do from a state that the ledger tells of: each is accepted, then nothing waits at the replica, and it holds the rows with which the serial run ends.
   pub record CatchesUp (opening : List Row) (j : ℕ) (s : State) (l : Ledger (Gave V K)) : Type 0 where
-    pub accepted : All (λ x. x.1 ≡ (0, Some Outcome.Accepted)) (answered pack unpack s (catching_up j l.begun))
+    pub accepted : AllByRecursion (λ x. x.1 ≡ (0, Some Outcome.Accepted)) (answered pack unpack s (catching_up j l.begun))
     pub empty : NothingWaits j (ledger pack (answered pack unpack s (catching_up j l.begun)) l).begun
     pub rows : catalogue_of (rows_of (final pack unpack s (catching_up j l.begun)).replicas) j ≡ serial opening l.begun
 

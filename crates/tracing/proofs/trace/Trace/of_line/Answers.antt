@@ -29,7 +29,7 @@ returns-in-Unknown c =
 pub loop-byte-preserved : goal.loop-byte-preserved
 loop-byte-preserved c = (
   c.in-Access.mode ∷ c.loop-byte.invariant.0,
-  accepted c.loop-byte.byte-index c.loop-byte-test.true c.loop-byte.invariant.1 c.in-Access.mode c.in-Access.ensures c.in-Ok.traced c.in-Ok.ensures.answer (counts_of c.access.new.sequencer) (vec_items c.push.new.self) c.access.ensures.after c.in_ok-push.ensures.items,
+  accepted c.loop-byte.byte-index c.loop-byte-test.true c.loop-byte.invariant.1 c.in-Access.mode c.in-Access.ensures c.in-Ok.traced c.in-Ok.ensures.answer (counts_of c.access.new.sequencer) (vec_items c.push.new.self) c.access.ensures.after c.in_ok-push-in-Ok.ensures.items,
 )
 
 pub returns : goal.returns

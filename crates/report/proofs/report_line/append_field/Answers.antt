@@ -1,7 +1,7 @@
-use Rattle.std.proofs.Common.{◌≡◌, [], ◌∷◌, ◌++◌, vec_items, ap, ◌∙◌, append_assoc}
+use Rattle.std.proofs.Common.{[], ◌∷◌, ◌++◌, vec_items, ap, ◌∙◌, append_assoc}
 use Rattle.std.proofs.lemmas.Result.{IfOk-weaker}
 use Rattle.report.specs.Lines.{cell_text}
-use Rattle.report.proofs.line.append_field.Goals as goal
+use Rattle.report.proofs.report_line.append_field.Goals as goal
 
 pub returns : goal.returns
 returns c =

@@ -1,6 +1,6 @@
 ghost use Rattle.std.specs.Prelude.{◌≡◌, [], ◌∷◌, ◌++◌, OnOk};
 ghost use Rattle.catalogue.specs.Refusals.{told, number as number_of};
-ghost use Rattle.report.specs.Lines.{named as NamedBy, stepped as stepped_by, accepted as accepted_line, answered as answered_line, unread as unread_line, line_text, with_field, with_fields};
+ghost use Rattle.report.specs.Lines.{named as named_by, stepped as stepped_by, accepted as accepted_line, answered as answered_line, unread as unread_line, line_text, with_field, with_fields};
 
 use crate::cell::Cell;
 use crate::decimal::append_decimal;
@@ -24,7 +24,7 @@ pub struct ReportLine {
 
 // The transaction that a call names; a begin names none.
 fn named(call: Call) -> Cell
-    ensures { result ≡ NamedBy call }
+    ensures { result ≡ named_by call }
 {
     match call {
         Call::Begin { .. } => Cell::Empty,

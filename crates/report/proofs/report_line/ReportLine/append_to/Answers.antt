@@ -1,6 +1,6 @@
 use Rattle.std.proofs.Common.{◌≡◌, ℕ, List, [], ◌∷◌, ◌++◌, vec_items, decimal, ap, ◌∙◌, append_assoc}
 use Rattle.report.specs.Lines.{cell_text}
-use Rattle.report.proofs.line.ReportLine.append_to.Goals as goal
+use Rattle.report.proofs.report_line.ReportLine.append_to.Goals as goal
 
 -- the fields one after the other are the line
 line_more : (text line refusal number replica high low end : List ℕ) → ((((((text ++ line) ++ refusal) ++ number) ++ replica) ++ high) ++ low) ++ end ≡ text ++ ((line ++ (refusal ++ (number ++ (replica ++ (high ++ low))))) ++ end)

@@ -1,1 +1,0 @@
-pub use field::field::Field;
