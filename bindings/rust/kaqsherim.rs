@@ -28,7 +28,7 @@ impl fmt::Display for Unwritten {
 impl error::Error for Unwritten {}
 
 #[link(name = "kaqsherim", kind = "static")]
-#[link(name = "rattle_c", kind = "static")]
+#[link(name = "libc_c", kind = "static")]
 unsafe extern "C" {
     safe fn kaqsherim_version() -> u32;
     fn kaqsherim_report_length(sheet: *const u8, sheet_length: usize) -> i64;

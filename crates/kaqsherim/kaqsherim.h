@@ -1,7 +1,7 @@
 /* The versioned tape catalogue, for programs in C: runs a sheet that is held in memory.
  *
- * Link with libkaqsherim.a, which `rt staticlib kaqsherim` writes to target/staticlib/, and with
- * librattle_c.a of the Rattle toolchain. Memory comes from malloc, and all of it is freed at the return.
+ * Link with libkaqsherim.a, which bindings/build writes to target/staticlib/, and with c/liblibc_c.a of
+ * the Rattle toolchain. Memory comes from malloc, and all of it is freed at the return.
  *
  * No pointer may be NULL, not even where its length is 0; the bytes of a sheet and of a buffer may not
  * overlap. No function keeps a pointer, and none has state: calls from several threads at once are fine,

@@ -1,4 +1,6 @@
 // Runs the sheets that are named as arguments, and compares what is printed for each with what is stored beside it.
+#![tactic(auto)]
+
 use report::running::run_sheet;
 use std::{env, fs};
 

@@ -1,4 +1,6 @@
 // A studio's story: a copy whose checksum fails keeps the old tape, and a second copy that passes frees it.
+#![tactic(auto)]
+
 use crate::backup::copy_poster;
 use crate::keeper::{Question, keep_house, look};
 use crate::replica::catch_up;

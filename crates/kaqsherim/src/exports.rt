@@ -1,4 +1,4 @@
-// What the library exports. A `Global` has no bytes, so that C passes nothing for it; a slice is a pointer and a length.
+// What the static library kaqsherim_c exports to C under these names: numbers and bytes alone.
 ghost use Rattle.std.specs.Prelude.{◌≡◌};
 ghost use Rattle.kaqsherim.specs.Answers.{Measured, Ran, library_version};
 
@@ -8,22 +8,19 @@ use std::alloc::Global;
 
 const VERSION: u32 = 1;
 
-#[unsafe(no_mangle)]
-pub extern "C" fn kaqsherim_version() -> u32
+pub fn kaqsherim_version() -> u32
     ensures { result ≡ library_version }
 {
     VERSION
 }
 
-#[unsafe(no_mangle)]
-pub extern "C" fn kaqsherim_report_length(heap: Global, sheet: &[u8]) -> i64
+pub fn kaqsherim_report_length(heap: Global, sheet: &[u8]) -> i64
     ensures { Measured sheet.now result }
 {
     number(report_length(heap, sheet))
 }
 
-#[unsafe(no_mangle)]
-pub extern "C" fn kaqsherim_run_sheet(heap: Global, sheet: &[u8], buffer: &mut [u8]) -> i64
+pub fn kaqsherim_run_sheet(heap: Global, sheet: &[u8], buffer: &mut [u8]) -> i64
     ensures { Ran sheet.now buffer.old result buffer.new }
 {
     number(write_report(heap, sheet, buffer))

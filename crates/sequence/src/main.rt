@@ -1,4 +1,6 @@
 // Reads the accesses to one table from standard input, and prints what the sequencer assigns to each.
+#![tactic(auto)]
+
 use std::io::Read;
 use tracing::trace::{Stop, Trace};
 

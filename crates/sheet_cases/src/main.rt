@@ -1,4 +1,6 @@
 // Reads sheets from standard input, parted by the byte 30, and two long ones that it makes; prints what each line of each tells.
+#![tactic(auto)]
+
 use catalogue::row::Row;
 use sequencing::call::Call;
 use sequencing::mode::Mode;

@@ -1,4 +1,6 @@
 // Reads a run sheet from standard input, runs it, and prints what became of each line.
+#![tactic(auto)]
+
 use report::running::run_sheet;
 use std::io::{Read, Write};
 
