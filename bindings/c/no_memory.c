@@ -1,5 +1,5 @@
-/* Lets each call of malloc fail in turn: the answer says so, the buffer is left as it was, and nothing is leaked.
- * Linked with -Wl,--wrap=malloc,--wrap=free, so that the library's calls come here. */
+/* Lets each call of malloc and of realloc fail in turn: the answer says so, the buffer is left as it was, and nothing is leaked.
+ * Linked with -Wl,--wrap=malloc,--wrap=realloc,--wrap=free, so that the library's calls come here. */
 #include "kaqsherim.h"
 
 #include <assert.h>
@@ -17,8 +17,10 @@ static int failing_call = -1;
 static int blocks;
 
 void *__real_malloc(size_t size);
+void *__real_realloc(void *block, size_t size);
 void __real_free(void *block);
 void *__wrap_malloc(size_t size);
+void *__wrap_realloc(void *block, size_t size);
 void __wrap_free(void *block);
 
 void *__wrap_malloc(size_t size)
@@ -28,13 +30,20 @@ void *__wrap_malloc(size_t size)
     return block;
 }
 
+void *__wrap_realloc(void *block, size_t size)
+{
+    void *moved = calls++ == failing_call ? NULL : __real_realloc(block, size);
+    blocks += block == NULL && moved != NULL;
+    return moved;
+}
+
 void __wrap_free(void *block)
 {
     blocks -= block != NULL;
     __real_free(block);
 }
 
-/* Whether the run answered a length, no call of malloc having failed. */
+/* Whether the run answered a length, no call having failed. */
 static int runs_with_failing(int call)
 {
     uint8_t buffer[100];
