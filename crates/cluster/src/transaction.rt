@@ -1,5 +1,5 @@
 ghost use Rattle.std.specs.Prelude.{◌≡◌, ℕ, ◌≤◌, true, length, take, slice_index};
-ghost use Rattle.versioning.specs.Words.{count_writes, ended as EndedBy};
+ghost use Rattle.versioning.specs.Words.{count_writes, ended as ended_by};
 ghost use Rattle.cluster.specs.Orderly.{orderly, tally, is_ended, Priced};
 
 use catalogue::row::Row;
@@ -39,7 +39,7 @@ pub struct Transaction {
     replaced: [[Row; 25]; 4],
     ghost long: { length asked ≡ 25 },
     ghost size: { count ≤ 25 },
-    ghost phased: { EndedBy (take count asked) ≡ is_ended phase },
+    ghost phased: { ended_by (take count asked) ≡ is_ended phase },
     ghost allowed: { orderly declared asked count ≡ true },
     ghost modest: { count_writes (take count asked) ≤ 16 },
     ghost tallied: { count ≤ tally (take count asked) },

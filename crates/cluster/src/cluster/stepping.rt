@@ -1,4 +1,4 @@
-ghost use Rattle.std.specs.Prelude.{◌≡◌, ◌<◌, true, [], length, get_or, vec_len, MatchResult, slice_index_or};
+ghost use Rattle.std.specs.Prelude.{◌≡◌, ◌<◌, true, [], length, vec_len, MatchResult, slice_index_or};
 ghost use Rattle.catalogue.specs.Refusals.{told, number as number_of};
 ghost use Rattle.versioning.specs.Words.{waits};
 ghost use Rattle.versioning.specs.Machine.{finished, step_reply, step_after};
@@ -39,7 +39,7 @@ impl<R: Replicas> Cluster<R> {
     // Executes the next operation of the i-th unfinished transaction at the replica. Executed everywhere to its end, it gives up its place.
     fn execute(&mut self, i: usize, replica: usize)
         requires place { (i < vec_len self.old.unfinished) × (replica < length (R.Replicas.catalogues self.old.replicas)) }
-        requires waits { waits (get_or (transactions_of self.old.unfinished.items) i finished).course replica ≡ true }
+        requires waits { waits (slice_index_or (transactions_of self.old.unfinished.items) i finished).course replica ≡ true }
         ensures after { state_of R.Replicas.catalogues self.new ≡ stepped_at (state_of R.Replicas.catalogues self.old) i replica }
         ensures kept { R.Replicas.lents self.new.replicas ≡ R.Replicas.lents self.old.replicas }
     {
