@@ -15,3 +15,4 @@ pub mod Without
 pub mod Holding
 pub mod Checked
 pub mod Reading
+pub mod Ran

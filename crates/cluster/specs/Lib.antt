@@ -3,3 +3,4 @@ pub mod Transactions
 pub mod Executing
 pub mod Rooms
 pub mod View
+pub mod Runs

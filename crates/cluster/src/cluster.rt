@@ -11,6 +11,7 @@ pub mod beginning;
 pub mod finding;
 pub mod opening;
 pub mod reading;
+pub mod running;
 pub mod stepping;
 
 // So many transactions may be unfinished at a time.

@@ -7,7 +7,7 @@ use Rattle.line.specs.Refusals.{Told}
 use Rattle.sheet.specs.Sheets.{counted_on}
 use Rattle.versioning.specs.declared.request.Request.{Request}
 use Rattle.versioning.specs.Machine.{State, Answer}
-use Rattle.runs.specs.Runs.{replies}
+use Rattle.cluster.specs.Runs.{replies}
 use Rattle.report.specs.declared.report_line.ReportLine.{ReportLine}
 use Rattle.report.specs.Lines.{answered, unread, line_text}
 

@@ -6,10 +6,10 @@ ghost use Rattle.report.specs.Writing.{answers_to};
 
 use catalogue::kind::counter::Counter;
 use catalogue::refusal::Refusal;
+use cluster::cluster::Cluster;
 use layers::cache::Cache;
 use layers::numbers::Numbers;
 use layers::renumbering::Renumbering;
-use runs::run;
 use std::alloc::{AllocError, Global};
 use stores::change_list::ChangeList;
 use stores::image::Image;
@@ -42,7 +42,7 @@ pub(crate) fn answers(
         ChangeList::new(&mut second),
         Cache::new(Renumbering::new(Image::new(&mut third), &numbers)),
     );
-    match run(heap, replicas, requests) {
+    match Cluster::run(heap, replicas, requests) {
         Ok((answers, _cluster)) => Ok(answers),
         Err(_replicas) => Err(AllocError),
     }

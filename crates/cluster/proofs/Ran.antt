@@ -6,7 +6,7 @@ use Rattle.versioning.specs.declared.request.Request.{Request}
 use Rattle.versioning.specs.Machine.{State, Answer, History, rows_of, start, reply, after, answered, final}
 use Rattle.versioning.specs.Serial.{InSerialOrder}
 use Rattle.versioning.proofs.Runs.{serial_order}
-use Rattle.runs.specs.Runs.{replies, history}
+use Rattle.cluster.specs.Runs.{replies, history}
 use Rattle.cluster.specs.View.{paired}
 
 pub rows_paired : (cs : List (List Row)) (vs : List (List ℕ)) → rows_of (paired cs vs) ≡ cs

@@ -3,11 +3,11 @@ use Rattle.catalogue.specs.declared.row.Row.{Row}
 use Rattle.catalogue.specs.Refusals.{told}
 use Rattle.catalogue.specs.Replicated.{catalogue_of}
 use Rattle.versioning.specs.Machine.{State, start, final}
-use Rattle.runs.specs.Runs.{replies}
-use Rattle.cluster.specs.View.{state_of, replicas_of}
+use Rattle.cluster.specs.Runs.{replies}
+use Rattle.cluster.specs.View.{state_of}
 use Rattle.std.proofs.ByRecursion.{All-get_or}
-use Rattle.runs.proofs.Ran.{in_order}
-use Rattle.runs.proofs.run.Goals as goal
+use Rattle.cluster.proofs.Ran.{in_order}
+use Rattle.cluster.proofs.cluster.Cluster.run.Goals as goal
 
 pub returns-in-Ok-open : goal.returns-in-Ok-open
 returns-in-Ok-open g c =
@@ -17,7 +17,7 @@ returns-in-Ok-open g c =
     let n = length before in
     let opening = catalogue_of before 0 in
     let qs = c.args.requests.now in
-    let last = c.request_all.new.cluster in
+    let last = c.request_all.new.self in
     let s : State = state_of g.R.Replicas.catalogues last in
     let answers : map told (vec_items c.request_all.new.answers) ≡ replies pack unpack (start n opening) qs =
     c.request_all.ensures.answers
@@ -27,7 +27,7 @@ returns-in-Ok-open g c =
     c.request_all.ensures.after ∙ ap (λ (t : State). final pack unpack t qs) c.in-Ok-open.ensures.state in
     let whole = g.R.Replicas.whole c.args.replicas in
     record {
-      order = in_order pack unpack n opening qs (map told (vec_items c.request_all.new.answers)) s (g.R.Replicas.catalogues (replicas_of last)) last.versions (All-get_or (λ (rows : List Row). length rows ≡ 512) before 0 [] whole.some whole.full) answers after refl;
+      order = in_order pack unpack n opening qs (map told (vec_items c.request_all.new.answers)) s (g.R.Replicas.catalogues last.replicas) last.versions (All-get_or (λ (rows : List Row). length rows ≡ 512) before 0 [] whole.some whole.full) answers after refl;
       answers = answers;
       after = after;
       kept = c.request_all.ensures.kept ∙ c.in-Ok-open.ensures.kept;

@@ -2,17 +2,17 @@ use Rattle.std.proofs.Common.{◌+◌, ◌≤◌, ◌++◌, map, length, drop, v
 use Rattle.std.proofs.lemmas.List.{map_push}
 use Rattle.catalogue.specs.Refusals.{told}
 use Rattle.versioning.specs.Machine.{State}
-use Rattle.runs.specs.Runs.{replies}
+use Rattle.cluster.specs.Runs.{replies}
 use Rattle.cluster.specs.View.{state_of}
-use Rattle.runs.proofs.Ran.{answers_more, final_more, answers_all, final_all}
-use Rattle.runs.proofs.request_all.Goals as goal
+use Rattle.cluster.proofs.Ran.{answers_more, final_more, answers_all, final_all}
+use Rattle.cluster.proofs.cluster.Cluster.request_all.Goals as goal
 
 pub loop-request-preserved : goal.loop-request-preserved
 loop-request-preserved g c =
     let pack = g.F.Family.packed in
     let unpack = g.F.Family.unpacked in
-    let s : State = state_of g.R.Replicas.catalogues c.loop-request.cluster in
-    let s' : State = state_of g.R.Replicas.catalogues c.request.new.cluster in
+    let s : State = state_of g.R.Replicas.catalogues c.loop-request.self in
+    let s' : State = state_of g.R.Replicas.catalogues c.request.new.self in
     let i = c.loop-request.request-index in
     let qs = c.args.requests.now in
     let q = c.request-item.result in
@@ -32,7 +32,7 @@ pub returns : goal.returns
 returns g c =
     let pack = g.F.Family.packed in
     let unpack = g.F.Family.unpacked in
-    let s : State = state_of g.R.Replicas.catalogues c.loop-request.cluster in
+    let s : State = state_of g.R.Replicas.catalogues c.loop-request.self in
     let i = c.loop-request.request-index in
     let qs = c.args.requests.now in
     let l : length qs ≤ i = omega arith in

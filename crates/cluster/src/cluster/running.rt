@@ -1,0 +1,125 @@
+ghost use Rattle.std.specs.Prelude.{◌≡◌, ◌+◌, ◌≤◌, ◌++◌, map, length, IfOk, vec_len, vec_capacity, MatchResult};
+ghost use Rattle.catalogue.specs.Replicated.{catalogue_of};
+ghost use Rattle.versioning.specs.Serial.{InSerialOrder};
+ghost use Rattle.catalogue.specs.Refusals.{told};
+ghost use Rattle.versioning.specs.Machine.{reply, after, call_reply, call_after, as_outcome, start, final};
+ghost use Rattle.cluster.specs.View.{state_of};
+ghost use Rattle.cluster.specs.Runs.{replies, history};
+
+use super::Cluster;
+use catalogue::refusal::Refusal;
+use catalogue::replicas::Replicas;
+use sequencing::call::Call;
+use std::alloc::Global;
+use versioning::family::Family;
+use versioning::request::{Outcome, Request};
+
+impl<R: Replicas> Cluster<R> {
+    // One call by number, as a sheet makes it.
+    pub fn call<V>(&mut self, call: Call) -> Result<Outcome<V>, Refusal>
+        ensures answer { told result ≡ call_reply (state_of R.Replicas.catalogues self.old) call }
+        ensures after { state_of R.Replicas.catalogues self.new ≡ call_after (state_of R.Replicas.catalogues self.old) call }
+        ensures kept { R.Replicas.lents self.new.replicas ≡ R.Replicas.lents self.old.replicas }
+    {
+        match call {
+            Call::Begin { modes } => match self.begin(modes) {
+                Ok(number) => Ok(Outcome::Begun { number }),
+                Err(refusal) => Err(refusal),
+            },
+            Call::Write {
+                number,
+                table,
+                row,
+                value,
+                class,
+            } => accepted(self.write(number, table, row, value, class)),
+            Call::Read { number, table, row } => match self.read(number, table, row) {
+                Ok((row, replica)) => Ok(Outcome::Found { row, replica }),
+                Err(refusal) => Err(refusal),
+            },
+            Call::Release { number, table } => accepted(self.release(number, table)),
+            Call::Commit { number } => accepted(self.commit(number)),
+            Call::Abort { number } => accepted(self.abort(number)),
+            Call::Step { number, replica } => accepted(self.step(number, replica)),
+        }
+    }
+
+    // One request: a call, or a typed write or read.
+    pub fn request<F: Family>(
+        &mut self,
+        request: Request<F, F::Which>,
+    ) -> Result<Outcome<F>, Refusal>
+        ensures answer { told result ≡ reply F.Family.packed F.Family.unpacked (state_of R.Replicas.catalogues self.old) request }
+        ensures after { state_of R.Replicas.catalogues self.new ≡ after F.Family.packed F.Family.unpacked (state_of R.Replicas.catalogues self.old) request }
+        ensures kept { R.Replicas.lents self.new.replicas ≡ R.Replicas.lents self.old.replicas }
+    {
+        match request {
+            Request::Call(call) => self.call(call),
+            Request::WriteAs {
+                number,
+                table,
+                row,
+                value,
+                class,
+            } => accepted(self.write_as(number, table, row, value, class)),
+            Request::ReadAs {
+                number,
+                table,
+                row,
+                kind,
+            } => match self.read_as(number, table, row, kind) {
+                Ok((value, replica)) => Ok(Outcome::Value { value, replica }),
+                Err(refusal) => Err(refusal),
+            },
+        }
+    }
+
+    // Requests one after the other; the answers go behind those that are there, for which there is room.
+    fn request_all<F: Family + Copy>(
+        &mut self,
+        requests: &[Request<F, F::Which>],
+        answers: &mut Vec<Result<Outcome<F>, Refusal>>,
+    )
+        requires { vec_len answers.old + length requests.now ≤ vec_capacity answers.old }
+        ensures answers { map told answers.new.items ≡ map told answers.old.items ++ replies F.Family.packed F.Family.unpacked (state_of R.Replicas.catalogues self.old) requests.now }
+        ensures after { state_of R.Replicas.catalogues self.new ≡ final F.Family.packed F.Family.unpacked (state_of R.Replicas.catalogues self.old) requests.now }
+        ensures kept { R.Replicas.lents self.new.replicas ≡ R.Replicas.lents self.old.replicas }
+    {
+        for request in requests {
+            answers.push_reserved(self.request(*request));
+        }
+    }
+
+    // Opens a cluster over the replicas, makes the requests one after the other, and gives back their answers and the cluster.
+    // The answers and the rows that the replicas end with are those of the serial run. Where there is no memory the replicas are handed back as they were.
+    pub fn run<F: Family + Copy>(
+        heap: Global,
+        replicas: R,
+        requests: &[Request<F, F::Which>],
+    ) -> Result<(Vec<Result<Outcome<F>, Refusal>>, Cluster<R>), R>
+        ensures order { MatchResult result (λ x. InSerialOrder F.Family.packed F.Family.unpacked (catalogue_of (R.Replicas.catalogues replicas) 0) (history requests.now (map told x.0.items)) (R.Replicas.catalogues x.1.replicas)) (λ back. back ≡ replicas) }
+        ensures answers { IfOk result (λ x. map told x.0.items ≡ replies F.Family.packed F.Family.unpacked (start (length (R.Replicas.catalogues replicas)) (catalogue_of (R.Replicas.catalogues replicas) 0)) requests.now) }
+        ensures after { IfOk result (λ x. state_of R.Replicas.catalogues x.1 ≡ final F.Family.packed F.Family.unpacked (start (length (R.Replicas.catalogues replicas)) (catalogue_of (R.Replicas.catalogues replicas) 0)) requests.now) }
+        ensures kept { IfOk result (λ x. R.Replicas.lents x.1.replicas ≡ R.Replicas.lents replicas) }
+    {
+        let Ok(mut answers) = Vec::with_capacity(heap, requests.len()) else {
+            return Err(replicas);
+        };
+        match Cluster::open(heap, replicas) {
+            Ok(mut cluster) => {
+                cluster.request_all(requests, &mut answers);
+                Ok((answers, cluster))
+            }
+            Err(replicas) => Err(replicas),
+        }
+    }
+}
+
+fn accepted<V>(answer: Result<(), Refusal>) -> Result<Outcome<V>, Refusal>
+    ensures { told result ≡ as_outcome (λ x. Outcome.Accepted) (told answer) }
+{
+    match answer {
+        Ok(()) => Ok(Outcome::Accepted),
+        Err(refusal) => Err(refusal),
+    }
+}
