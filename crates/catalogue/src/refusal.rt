@@ -41,7 +41,7 @@ impl Refusal {
     }
 }
 
-// By their numbers, since a derived `==` of so many variants promises nothing.
+// By their numbers, by which callers tell refusals apart.
 impl PartialEq for Refusal {
     ghost eq = { λ a b. (number_of a == number_of b) };
 
