@@ -27,3 +27,22 @@ pub extern "C" fn kaqsherim_run_sheet(heap: Global, sheet: &[u8], buffer: &mut [
 {
     exports::kaqsherim_run_sheet(heap, sheet, buffer)
 }
+
+// The contracts leave open that memory is always wanting: here it is not.
+#[cfg(test)]
+mod tests {
+    use super::*;
+    use std::test::Fail;
+
+    #[test]
+    fn a_sheet_is_measured_and_run(rt: HostRuntime) -> Result<(), Fail> {
+        let sheet = b"call,number,place,row,high,low,class\nbegin,,nnwnnnnn,,,,\n";
+        let report = b"line,refusal,number,replica,high,low\n2,0,0,,,\n";
+        let mut buffer = [0; 46];
+        assert_eq!(rt; kaqsherim_version(), 1);
+        assert_eq!(rt; kaqsherim_report_length(rt.alloc(), sheet), 46);
+        assert_eq!(rt; kaqsherim_run_sheet(rt.alloc(), sheet, &mut buffer), 46);
+        assert!(rt; buffer[..] == report[..]);
+        Ok(())
+    }
+}
