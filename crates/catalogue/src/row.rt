@@ -8,7 +8,7 @@ pub const TABLES: u32 = 8;
 
 pub const ROWS: u32 = 64;
 
-#[derive(Clone, Copy, PartialEq, Eq, Debug)]
+#[derive(Clone, Copy, PartialEq, Eq, Debug, Default)]
 pub struct Row {
     pub high: u64,
     pub low: u64,

@@ -1,7 +1,7 @@
 -- One operation more is asked: it may follow those before, there is room for it, and nothing else changes.
-use Rattle.std.proofs.Common.{◌≡◌, ℕ, zero, suc, ◌+◌, ◌<◌, ◌≤◌, Bool, true, false, cond, not, ◌&&◌, ◌||◌, eqb, ltb, ◌⊎◌, List, [], ◌∷◌, ◌++◌, length, get_or, take, set, sym, refl, ap, ◌∙◌, subst, ap₂, inl, inr, not-suc-le-zero, add-one, arith}
+use Rattle.std.proofs.Common.{◌≡◌, ℕ, zero, suc, ◌+◌, ◌<◌, ◌≤◌, Bool, true, false, cond, not, ◌&&◌, ◌||◌, eqb, ltb, ◌⊎◌, List, [], ◌∷◌, ◌++◌, length, get_or, take, sym, refl, ap, ◌∙◌, subst, ap₂, inl, inr, not-suc-le-zero, add-one, arith}
 use mathlib.Core.Path.{fun_ext}
-use Rattle.std.proofs.lemmas.List.{take-set, take-set-le, take_more_set, get_or-set_same, get_or-set_other}
+use Rattle.std.proofs.lemmas.List.{take-append-le, take_at, get_or_append_left, get_or_push, length_push}
 use Rattle.std.proofs.lemmas.List.Sums.{sum_by_push}
 use Rattle.std.proofs.lemmas.Bool.{and_parts, and_from, or_parts, or_from, or_right, cases_lt, eq-eqb, not-true, not-false, not_from_false, ltb-true}
 use Rattle.catalogue.specs.declared.row.Row.{Row}
@@ -11,11 +11,11 @@ use Rattle.sequencing.specs.declared.mode.Mode.{Mode}
 use Rattle.sequencing.specs.Modes.{declares}
 use Rattle.versioning.specs.declared.operation.Operation.{Operation}
 use Rattle.versioning.specs.Words.{Course, ask, mode, writes, is_release, is_end, is_write, released, ended, lets_go, count_writes}
-use Rattle.versioning.specs.Machine.{Transaction as Unfinished, may_write, may_release, may_commit, may_abort}
+use Rattle.versioning.specs.Machine.{may_write, may_release, may_commit, may_abort}
 use Rattle.versioning.proofs.Ops.{some_push}
 use Rattle.versioning.proofs.Checks.{all_passed}
 use Rattle.cluster.specs.declared.transaction.Transaction.{Transaction}
-use Rattle.cluster.specs.Orderly.{mode_in, may_follow, orderly, bit, sum_below, tally}
+use Rattle.cluster.specs.Orderly.{mode_in, may_follow, orderly, bit, sum_below, tally, progress_at, executed_at}
 use Rattle.cluster.specs.Transactions.{replaced_by, replaced_rows, course_of, transaction_of, with_course, may_ask, asked_after}
 
 -- what no check refuses may follow what was asked, and is one of 16 writes at most
@@ -108,6 +108,10 @@ module _ (ops : List Operation) where
     sums_grow : sum_below 8 (λ t. bit (released t ops)) ≤ sum_below 8 (λ t. bit (released t (ops ++ (op ∷ []))))
     sums_grow = sum_mono 8 (λ t. bit (released t ops)) (λ t. bit (released t (ops ++ (op ∷ [])))) released_grows
 
+-- a transaction asked 25 operations at most
+pub most_asked : (x : Transaction) → length x.asked.items ≤ 25
+most_asked x = omega (arith, x.tallied, x.modest, released_most x.asked.items, bit_one (ended x.asked.items))
+
 -- one more adds one to the tally, which was 24 at most
 abbrev Fitting : List Operation → Operation → Type 0
 Fitting ops op = (tally ops + 1 ≤ tally (ops ++ (op ∷ []))) × (count_writes ops + bit (is_write op) ≤ 16 → tally ops ≤ 24)
@@ -134,52 +138,45 @@ fits modes ops (Operation.Release t) a =
 fits modes ops Operation.Commit a = end_fits ops Operation.Commit refl a
 fits modes ops Operation.Abort a = end_fits ops Operation.Abort refl a
 
--- the array with one more
-orderly_kept : (modes : List Mode) (ops : List Operation) (n m : ℕ) (op : Operation) → m ≤ n → orderly modes (set ops n op) m ≡ orderly modes ops m
-orderly_kept modes ops n zero op h = refl
-orderly_kept modes ops n (suc m) op h =
-    ap₂ ◌&&◌ (orderly_kept modes ops n m op (omega arith)) (ap₂ (may_follow modes) (take-set-le m ops n op (omega arith)) (get_or-set_other ops n m op Operation.Commit (λ e. omega arith)))
+-- the list with one more
+orderly_kept : (modes : List Mode) (ops : List Operation) (m : ℕ) (op : Operation) → m ≤ length ops → orderly modes (ops ++ (op ∷ [])) m ≡ orderly modes ops m
+orderly_kept modes ops zero op h = refl
+orderly_kept modes ops (suc m) op h =
+    ap₂ ◌&&◌ (orderly_kept modes ops m op (omega arith)) (ap₂ (may_follow modes) (take-append-le m ops (op ∷ []) (omega arith)) (get_or_append_left ops (op ∷ []) Operation.Commit m (omega arith)))
 
-orderly_more : (modes : List Mode) (ops : List Operation) (n : ℕ) (op : Operation) → n < length ops → orderly modes ops n ≡ true → may_follow modes (take n ops) op ≡ true → orderly modes (set ops n op) (n + 1) ≡ true
-orderly_more modes ops n op l o a =
-    ap (orderly modes (set ops n op)) (add-one n)
-    ∙ and_from (orderly modes (set ops n op) n) (may_follow modes (take n (set ops n op)) (get_or (set ops n op) n Operation.Commit)) (orderly_kept modes ops n n op (omega arith) ∙ o) (ap₂ (may_follow modes) (take-set ops n op) (get_or-set_same ops n op Operation.Commit l) ∙ a)
+orderly_more : (modes : List Mode) (ops : List Operation) (op : Operation) → orderly modes ops (length ops) ≡ true → may_follow modes ops op ≡ true → orderly modes (ops ++ (op ∷ [])) (length ops + 1) ≡ true
+orderly_more modes ops op o a =
+    let n = length ops in
+    ap (orderly modes (ops ++ (op ∷ []))) (add-one n)
+    ∙ and_from (orderly modes (ops ++ (op ∷ [])) n) (may_follow modes (take n (ops ++ (op ∷ []))) (get_or (ops ++ (op ∷ [])) n Operation.Commit)) (orderly_kept modes ops n op (omega arith) ∙ o) (ap₂ (may_follow modes) (take_at ops (op ∷ []) n refl) (get_or_push ops op Operation.Commit n refl) ∙ a)
 
-replaced_asked : (ops : List Operation) (olds : List Row) (n i : ℕ) (op : Operation) → n ≤ i → replaced_rows (set ops i op) olds n ≡ replaced_rows ops olds n
-replaced_asked ops olds zero i op h = refl
-replaced_asked ops olds (suc n) i op h =
-    ap₂ (λ (o : Operation) (rest : List (ℕ × Row)). replaced_by o (get_or olds n blank) rest) (get_or-set_other ops i n op Operation.Commit (λ e. omega arith)) (replaced_asked ops olds n i op (omega arith))
+replaced_asked : (ops : List Operation) (olds : List Row) (n : ℕ) (op : Operation) → n ≤ length ops → replaced_rows (ops ++ (op ∷ [])) olds n ≡ replaced_rows ops olds n
+replaced_asked ops olds zero op h = refl
+replaced_asked ops olds (suc n) op h =
+    ap₂ (λ (o : Operation) (rest : List (ℕ × Row)). replaced_by o (get_or olds n blank) rest) (get_or_append_left ops (op ∷ []) Operation.Commit n (omega arith)) (replaced_asked ops olds n op (omega arith))
 
--- an operation that no check refuses: there is room for it in the array, and the transaction with it is the machine's
+-- an operation that no check refuses: there is room for it, and the transaction with it is the machine's
 module _ (x : Transaction) (op : Operation) (accepted : first (may_ask (course_of x) op) ≡ 0) where
-  fitting : Fitting (take x.count x.asked) op
-  fitting = fits x.declared (take x.count x.asked) op (follows (course_of x) op accepted)
+  fitting : Fitting x.asked.items op
+  fitting = fits x.declared x.asked.items op (follows (course_of x) op accepted)
 
-  pub room : x.count < length x.asked
-  room = omega (arith, fitting.1 (few_writes (course_of x) op accepted x.modest), x.tallied, x.long)
+  pub room : length x.asked.items < 25
+  room = omega (arith, fitting.1 (few_writes (course_of x) op accepted x.modest), x.tallied)
 
-  asked_now : take (x.count + 1) (set x.asked x.count op) ≡ take x.count x.asked ++ (op ∷ [])
-  asked_now = take_more_set x.asked x.count op room
+  pub phased_now : (b : Bool) → b ≡ is_end op → ended (x.asked.items ++ (op ∷ [])) ≡ b
+  phased_now b e = ended_after (course_of x) op b accepted e
 
-  pub phased_now : (b : Bool) → b ≡ is_end op → ended (take (x.count + 1) (set x.asked x.count op)) ≡ b
-  phased_now b e = ap ended asked_now ∙ ended_after (course_of x) op b accepted e
+  pub orderly_now : orderly x.declared (x.asked.items ++ (op ∷ [])) (length (x.asked.items ++ (op ∷ []))) ≡ true
+  orderly_now =
+      ap (orderly x.declared (x.asked.items ++ (op ∷ []))) (length_push x.asked.items op) ∙ orderly_more x.declared x.asked.items op x.allowed (follows (course_of x) op accepted)
 
-  pub orderly_now : orderly x.declared (set x.asked x.count op) (x.count + 1) ≡ true
-  orderly_now = orderly_more x.declared x.asked x.count op room x.allowed (follows (course_of x) op accepted)
+  pub modest_now : count_writes (x.asked.items ++ (op ∷ [])) ≤ 16
+  modest_now = omega (arith, count_push x.asked.items op, few_writes (course_of x) op accepted x.modest)
 
-  pub modest_now : count_writes (take (x.count + 1) (set x.asked x.count op)) ≤ 16
-  modest_now =
-      subst (λ (ops : List Operation). count_writes ops ≤ 16) (sym asked_now) (omega (arith, count_push (take x.count x.asked) op, few_writes (course_of x) op accepted x.modest))
+  pub tallied_now : length (x.asked.items ++ (op ∷ [])) ≤ tally (x.asked.items ++ (op ∷ []))
+  tallied_now = omega (arith, length_push x.asked.items op, fitting.0, x.tallied)
 
-  pub tallied_now : x.count + 1 ≤ tally (take (x.count + 1) (set x.asked x.count op))
-  tallied_now = subst (λ (ops : List Operation). x.count + 1 ≤ tally ops) (sym asked_now) (omega (arith, fitting.0, x.tallied))
-
-  -- the transaction, written out, with one operation more
-  abbrev with_asked : List Operation → (ℕ → List (ℕ × Row)) → Unfinished
-  with_asked ops replaced =
-      record { number = x.number; assigned = x.assigned; course = record { declared = x.declared; asked = ops; executed = λ j. get_or x.executed j 0 }; replaced = replaced }
-
-  pub after_now : with_asked (take (x.count + 1) (set x.asked x.count op)) (λ j. replaced_rows (set x.asked x.count op) (get_or x.replaced j []) (get_or x.executed j 0)) ≡ asked_after (transaction_of x) op
+  pub after_now : record { number = x.number; assigned = x.assigned; course = ask op (course_of x); replaced = λ j. replaced_rows (x.asked.items ++ (op ∷ [])) (progress_at x.progress j).replaced.items (executed_at x.progress j) } ≡ asked_after (transaction_of x) op
   after_now =
-      ap₂ with_asked asked_now (fun_ext (λ (j : ℕ). replaced_asked x.asked (get_or x.replaced j []) (get_or x.executed j 0) x.count op (x.within j)))
+      ap (λ (replaced : ℕ → List (ℕ × Row)). record { number = x.number; assigned = x.assigned; course = ask op (course_of x); replaced = replaced }) (fun_ext (λ (j : ℕ). replaced_asked x.asked.items (progress_at x.progress j).replaced.items (executed_at x.progress j) op (x.within j)))
       ∙ ap (λ n. cond (eqb n 0) (with_course (transaction_of x) (ask op (course_of x))) (transaction_of x)) (sym accepted)

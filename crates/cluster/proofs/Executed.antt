@@ -1,18 +1,20 @@
--- The next operation of a transaction is executed at a replica: what becomes of its array, its counts and the rows it replaced.
-use Rattle.std.proofs.Common.{◌≡◌, ℕ, zero, suc, ◌+◌, ◌-◌, ◌<◌, ◌≤◌, Bool, true, false, cond, eqb, ◌⊎◌, List, [], length, get_or, set, sym, refl, ap, ◌∙◌, ap₂, inl, inr, add-one, arith}
+-- The next operation of a transaction is executed at a replica: what becomes of the rows it replaced, its cost and how far each replica is.
+use Rattle.std.proofs.Common.{◌≡◌, ℕ, zero, suc, ◌+◌, ◌-◌, ◌<◌, ◌≤◌, Bool, true, false, cond, eqb, ◌⊎◌, List, [], ◌∷◌, ◌++◌, length, get_or, take, set, sum_by, sym, refl, ap, ◌∙◌, subst, ap₂, inl, inr, add-one, arith}
 use mathlib.Core.Path.{fun_ext}
-use Rattle.std.proofs.lemmas.List.{get_or-set_same, get_or-set_other, set-set, set-get_or, length-set}
+use Rattle.std.proofs.lemmas.List.{get_or-set_same, get_or-set_other, set-set, set-get_or, length-set, get_or_append_left, get_or_push, length_push}
+use Rattle.std.proofs.lemmas.List.Sums.{sum_by_more}
 use Rattle.std.proofs.lemmas.Bool.{eqb-true, eqb-false}
 use Rattle.catalogue.specs.declared.row.Row.{Row}
 use Rattle.catalogue.specs.Rows.{blank}
 use Rattle.catalogue.specs.Replicated.{catalogue_of}
 use Rattle.versioning.specs.declared.operation.Operation.{Operation}
 use Rattle.versioning.specs.Words.{updated, next}
-use Rattle.versioning.specs.Machine.{undo, rows_after}
+use Rattle.versioning.specs.Machine.{undo, rows_after, cost}
 use Rattle.cluster.specs.declared.transaction.Transaction.{Transaction}
+use Rattle.cluster.specs.declared.transaction.progress.Progress.{Progress}
+use Rattle.cluster.specs.Orderly.{progress_at, executed_at, Priced}
 use Rattle.cluster.specs.Transactions.{replaced_by, replaced_rows, course_of, transaction_of}
 use Rattle.cluster.specs.Executing.{replaced_row}
-use Rattle.cluster.proofs.Waiting.{next_is}
 
 -- a list with one element changed, as a function
 updated_is : {A : Type 0} (xs : List A) (j : ℕ) (v d : A) → j < length xs → (i : ℕ) → get_or (set xs j v) i d ≡ updated j v (λ k. get_or xs k d) i
@@ -23,31 +25,62 @@ updated_is xs j v d l i = go (eqb i j) refl
     go false e = get_or-set_other xs j i v d (eqb-false i j e)
 
 -- the rows replaced, with one more
-module _ (ops : List Operation) (olds : List Row) where
-  replaced_kept : (n i : ℕ) (v : Row) → n ≤ i → replaced_rows ops (set olds i v) n ≡ replaced_rows ops olds n
-  replaced_kept zero i v h = refl
-  replaced_kept (suc n) i v h =
-      ap₂ (replaced_by (get_or ops n Operation.Commit)) (get_or-set_other olds i n v blank (λ e. omega arith)) (replaced_kept n i v (omega arith))
+module _ (ops : List Operation) (olds : List Row) (old : Row) where
+  replaced_kept : (n : ℕ) → n ≤ length olds → replaced_rows ops (olds ++ (old ∷ [])) n ≡ replaced_rows ops olds n
+  replaced_kept zero h = refl
+  replaced_kept (suc n) h =
+      ap₂ (replaced_by (get_or ops n Operation.Commit)) (get_or_append_left olds (old ∷ []) blank n (omega arith)) (replaced_kept n (omega arith))
 
-  replaced_more : (n : ℕ) (v : Row) → n < length olds → replaced_rows ops (set olds n v) (n + 1) ≡ replaced_by (get_or ops n Operation.Commit) v (replaced_rows ops olds n)
-  replaced_more n v h =
-      ap (replaced_rows ops (set olds n v)) (add-one n) ∙ ap₂ (replaced_by (get_or ops n Operation.Commit)) (get_or-set_same olds n v blank h) (replaced_kept n n v (omega arith))
+  replaced_more : replaced_rows ops (olds ++ (old ∷ [])) (length (olds ++ (old ∷ []))) ≡ replaced_by (get_or ops (length olds) Operation.Commit) old (replaced_rows ops olds (length olds))
+  replaced_more =
+      ap (replaced_rows ops (olds ++ (old ∷ []))) (length_push olds old ∙ add-one (length olds))
+      ∙ ap₂ (replaced_by (get_or ops (length olds) Operation.Commit)) (get_or_push olds old blank (length olds) refl) (replaced_kept (length olds) (omega arith))
 
-module _ (x : Transaction) (j : ℕ) (old : Row) (he : j < length x.executed) (hr : j < length x.replaced) (hl : get_or x.executed j 0 < length (get_or x.replaced j [])) (hc : get_or x.executed j 0 < x.count) where
-  pub executed_advanced : (λ i. get_or (set x.executed j (get_or x.executed j 0 + 1)) i 0) ≡ updated j (get_or x.executed j 0 + 1) (λ i. get_or x.executed i 0)
-  executed_advanced = fun_ext (λ i. updated_is x.executed j (get_or x.executed j 0 + 1) 0 he i)
+-- how far each replica is, when the one at j has executed one operation more
+module _ (x : Transaction) (j : ℕ) (old : Row) (p : Progress) (there : j < length x.progress) (is : p.replaced.items ≡ (progress_at x.progress j).replaced.items ++ (old ∷ [])) where
+  abbrev now : List Progress
+  now = set x.progress j p
 
-  pub replaced_advanced : (λ i. replaced_rows x.asked (get_or (set x.replaced j (set (get_or x.replaced j []) (get_or x.executed j 0) old)) i []) (get_or (set x.executed j (get_or x.executed j 0 + 1)) i 0)) ≡ updated j (replaced_by (next (course_of x) j) old ((transaction_of x).replaced j)) (transaction_of x).replaced
-  replaced_advanced = fun_ext (λ i. go i (eqb i j) refl)
+  progress_is : (i : ℕ) → progress_at now i ≡ updated j p (progress_at x.progress) i
+  progress_is i = updated_is x.progress j p (record { replaced = record { items = [] }; cost = 0 }) there i
+
+  -- what holds of the others, and of the one at j as it is now
+  pub each_now : (P : Progress → Type 0) → P p → ((i : ℕ) → P (progress_at x.progress i)) → (i : ℕ) → P (progress_at now i)
+  each_now P new all i = subst P (sym (progress_is i)) (go (eqb i j))
     where
-      go : (i : ℕ) (b : Bool) → eqb i j ≡ b → replaced_rows x.asked (get_or (set x.replaced j (set (get_or x.replaced j []) (get_or x.executed j 0) old)) i []) (get_or (set x.executed j (get_or x.executed j 0 + 1)) i 0) ≡ cond b (replaced_by (next (course_of x) j) old ((transaction_of x).replaced j)) ((transaction_of x).replaced i)
-      go i true e =
-          ap (λ k. replaced_rows x.asked (get_or (set x.replaced j (set (get_or x.replaced j []) (get_or x.executed j 0) old)) k []) (get_or (set x.executed j (get_or x.executed j 0 + 1)) k 0)) (eqb-true i j e)
-          ∙ ap₂ (replaced_rows x.asked) (get_or-set_same x.replaced j (set (get_or x.replaced j []) (get_or x.executed j 0) old) [] hr) (get_or-set_same x.executed j (get_or x.executed j 0 + 1) 0 he)
-          ∙ replaced_more x.asked (get_or x.replaced j []) (get_or x.executed j 0) old hl
-          ∙ ap (λ op. replaced_by op old ((transaction_of x).replaced j)) (sym (next_is x j hc))
-      go i false e =
-          ap₂ (replaced_rows x.asked) (get_or-set_other x.replaced j i (set (get_or x.replaced j []) (get_or x.executed j 0) old) [] (eqb-false i j e)) (get_or-set_other x.executed j i (get_or x.executed j 0 + 1) 0 (eqb-false i j e))
+      go : (b : Bool) → P (cond b p (progress_at x.progress i))
+      go true = new
+      go false = all i
+
+  pub executed_now : executed_at now ≡ updated j (executed_at x.progress j + 1) (executed_at x.progress)
+  executed_now =
+      fun_ext (λ i. ap (λ (q : Progress). length q.replaced.items) (progress_is i) ∙ go (eqb i j) (progress_at x.progress i))
+    where
+      go : (b : Bool) (q : Progress) → length (cond b p q).replaced.items ≡ cond b (executed_at x.progress j + 1) (length q.replaced.items)
+      go true q = ap length is ∙ length_push (progress_at x.progress j).replaced.items old
+      go false q = refl
+
+  pub replaced_now : (λ i. replaced_rows x.asked.items (progress_at now i).replaced.items (executed_at now i)) ≡ updated j (replaced_by (next (course_of x) j) old ((transaction_of x).replaced j)) (transaction_of x).replaced
+  replaced_now =
+      fun_ext (λ i. ap (λ (q : Progress). replaced_rows x.asked.items q.replaced.items (length q.replaced.items)) (progress_is i) ∙ go (eqb i j) (progress_at x.progress i))
+    where
+      go : (b : Bool) (q : Progress) → replaced_rows x.asked.items (cond b p q).replaced.items (length (cond b p q).replaced.items) ≡ cond b (replaced_by (next (course_of x) j) old ((transaction_of x).replaced j)) (replaced_rows x.asked.items q.replaced.items (length q.replaced.items))
+      go true q =
+          ap (λ (olds : List Row). replaced_rows x.asked.items olds (length olds)) is
+          ∙ replaced_more x.asked.items (progress_at x.progress j).replaced.items old
+      go false q = refl
+
+  -- the transaction's facts of them
+  pub within_now : executed_at x.progress j < length x.asked.items → (i : ℕ) → executed_at now i ≤ length x.asked.items
+  within_now l =
+      each_now (λ q. length q.replaced.items ≤ length x.asked.items) (omega (arith, ap length is, length_push (progress_at x.progress j).replaced.items old)) x.within
+
+  pub priced_now : executed_at x.progress j < length x.asked.items → p.cost ≡ (progress_at x.progress j).cost + cost (next (course_of x) j) → Priced now x.asked.items
+  priced_now l e =
+      let n = executed_at x.progress j in
+      let more : length p.replaced.items ≡ n + 1 = ap length is ∙ length_push (progress_at x.progress j).replaced.items old in
+      each_now (λ q. q.cost ≡ sum_by cost (take (length q.replaced.items) x.asked.items))
+      (e ∙ ap (λ s. s + cost (next (course_of x) j)) (x.priced j) ∙ sym (sum_by_more cost x.asked.items n Operation.Commit l) ∙ ap (λ k. sum_by cost (take k x.asked.items)) (sym more)) x.priced
 
 -- the catalogues cs with rows put back at j
 abbrev pub undone : List (List Row) → ℕ → List (ℕ × Row) → List (List Row)

@@ -1,5 +1,5 @@
 -- What holds of a transaction by the facts that it carries: what it asked is in range, and when it lets go of a table.
-use Rattle.std.proofs.Common.{◌≡◌, ℕ, zero, suc, ◌+◌, ◌<◌, ◌≤◌, Bool, true, false, cond, not, ◌&&◌, ◌||◌, eqb, ltb, ◌⊎◌, List, [], ◌∷◌, ◌++◌, length, get_or, take, sym, refl, ap, ◌∙◌, subst, ap₂, inl, inr, true≢false, not-suc-le-zero, arith}
+use Rattle.std.proofs.Common.{◌≡◌, ℕ, zero, suc, ◌+◌, ◌<◌, ◌≤◌, Bool, true, false, cond, not, ◌&&◌, ◌||◌, eqb, ltb, ◌⊎◌, List, [], ◌∷◌, ◌++◌, length, get_or, take, sym, refl, ap, ◌∙◌, subst, inl, inr, true≢false, not-suc-le-zero, arith}
 use mathlib.Core.Bool.{false≢true}
 use Rattle.std.proofs.lemmas.List.{take_more, take-append-le}
 use Rattle.std.proofs.lemmas.Bool.{and_parts, or_from, or_left, or_right, cases_lt, eq-eqb, eqb-true, ltb-true, le-ltb, not-true}
@@ -9,10 +9,10 @@ use Rattle.versioning.specs.declared.operation.Operation.{Operation}
 use Rattle.versioning.specs.Words.{Course, ask, advance, mode, writes, is_release, is_end, is_write, released, ended, lets_go, done, waits, next, has_let_go, has_table}
 use Rattle.versioning.proofs.Ops.{lets_go_push}
 use Rattle.cluster.specs.declared.transaction.Transaction.{Transaction}
-use Rattle.cluster.specs.Orderly.{mode_in, may_follow, orderly}
+use Rattle.cluster.specs.Orderly.{mode_in, may_follow, orderly, executed_at}
 use Rattle.cluster.specs.Transactions.{course_of}
 use Rattle.cluster.specs.Executing.{InRange}
-use Rattle.cluster.proofs.Waiting.{asked_length, waits_below, next_is, done_is}
+use Rattle.cluster.proofs.Waiting.{waits_below}
 
 -- each operation may follow those before it
 follows_at : (modes : List Mode) (ops : List Operation) (n i : ℕ) → orderly modes ops n ≡ true → i < n → may_follow modes (take i ops) (get_or ops i Operation.Commit) ≡ true
@@ -39,9 +39,9 @@ may_range modes before Operation.Commit h = tt
 may_range modes before Operation.Abort h = tt
 
 -- what was asked is in range
-pub in_range : (x : Transaction) (i : ℕ) → i < x.count → InRange (get_or x.asked i Operation.Commit)
+pub in_range : (x : Transaction) (i : ℕ) → i < length x.asked.items → InRange (get_or x.asked.items i Operation.Commit)
 in_range x i l =
-    may_range x.declared (take i x.asked) (get_or x.asked i Operation.Commit) (follows_at x.declared x.asked x.count i x.allowed l)
+    may_range x.declared (take i x.asked.items) (get_or x.asked.items i Operation.Commit) (follows_at x.declared x.asked.items (length x.asked.items) i x.allowed l)
 
 -- a table that is declared is one of the eight
 pub declared_below : (c : Course) (t : ℕ) → declares (mode c t) ≡ true → t < 8
@@ -129,11 +129,10 @@ module _ (x : Transaction) (j : ℕ) where
   -- a next operation that is no write has tables that are declared, and not let go of at the replica yet
   pub next_tables : (t : ℕ) → waits (course_of x) j ≡ true → is_write (next (course_of x) j) ≡ false → has_table (course_of x) (done (course_of x) j) (next (course_of x) j) t ≡ true → (declares (mode (course_of x) t) ≡ true) × (has_let_go (course_of x) j t ≡ false)
   next_tables t w n h =
-      let l = waits_below x j w in
-      let f : may_follow x.declared (done (course_of x) j) (next (course_of x) j) ≡ true = ap₂ (may_follow x.declared) (done_is x j) (next_is x j l) ∙ follows_at x.declared x.asked x.count (get_or x.executed j 0) x.allowed l in
+      let f = follows_at x.declared x.asked.items (length x.asked.items) (executed_at x.progress j) x.allowed (waits_below x j w) in
       tables_held (course_of x) (done (course_of x) j) (next (course_of x) j) t f n h
 
   -- to ask lets go of nothing at any replica
   pub asking_keeps : (op : Operation) (t : ℕ) → has_let_go (ask op (course_of x)) j t ≡ has_let_go (course_of x) j t
   asking_keeps op t =
-      ap (lets_go t) (take-append-le (get_or x.executed j 0) (take x.count x.asked) (op ∷ []) (omega (arith, asked_length x j, x.within j)))
+      ap (lets_go t) (take-append-le (executed_at x.progress j) x.asked.items (op ∷ []) (x.within j))

@@ -3,7 +3,8 @@ use Rattle.std.proofs.Common.{◌≡◌, ℕ, zero, suc, ◌<◌, Bool, true, fa
 use Rattle.std.proofs.lemmas.Bool.{lt-ltb}
 use Rattle.catalogue.specs.declared.row.Row.{Row}
 use Rattle.catalogue.specs.declared.refusal.Refusal.{Refusal}
-use Rattle.catalogue.specs.Refusals.{number, first, unless_refused}
+use Rattle.std.specs.Option.{ok_or}
+use Rattle.catalogue.specs.Refusals.{number, first, unless_refused, told_as}
 use Rattle.catalogue.specs.Replicated.{catalogue_of, replica_checks}
 use Rattle.catalogue.specs.Rows.{blank, place}
 use Rattle.sequencing.specs.Sequencer.{counts_of}
@@ -13,7 +14,8 @@ use Rattle.versioning.proofs.Chosen.{chosen_right, one_chosen}
 use Rattle.cluster.specs.declared.cluster.Cluster.{Cluster}
 use Rattle.cluster.specs.declared.transaction.Transaction.{Transaction as Held}
 use Rattle.cluster.specs.Transactions.{transaction_of, transactions_of, may_read_reply, StandsAt}
-use Rattle.cluster.specs.View.{paired, state_of, fits, choice, fetched}
+use Rattle.cluster.specs.declared.replica_index.ReplicaIndex.{ReplicaIndex}
+use Rattle.cluster.specs.View.{paired, state_of, fits, choice, fetched, number_of}
 use Rattle.cluster.proofs.Answered.{accepted, refused, refused_too}
 use Rattle.cluster.proofs.Paired.{paired_length, paired_at}
 use Rattle.cluster.proofs.Standing.{many, shown_at}
@@ -133,12 +135,16 @@ module _ {R : Type 0} (catalogues : R → List (List Row)) (c : Cluster R) (k i 
         first_behind (reading_checks s k t r) ((not (is_some (chosen s k t)), Refusal.NoReplicaQualifies) ∷ []) (all_passed (reading_checks s k t r) none)
         ∙ ap (λ (o : Option ℕ). cond (not (is_some o)) 13 0) chosen_is
 
-    pub read_unqualified : None ≡ choice s u t → (13, None) ≡ read_reply s k t r
+    read_unqualified : None ≡ choice s u t → (13, None) ≡ read_reply s k t r
     read_unqualified e =
         let n : first (read_checks s k t r) ≡ 13 = last_check ∙ ap (λ (o : Option ℕ). cond (not (is_some o)) 13 0) (sym e) in
         ap (λ a. unless_refused a here) (sym n)
 
-    pub read_chosen : (j : ℕ) → Some j ≡ choice s u t → fetched (catalogues c.replicas) t r j ≡ read_reply s k t r
+    read_chosen : (j : ℕ) → Some j ≡ choice s u t → fetched (catalogues c.replicas) t r j ≡ read_reply s k t r
     read_chosen j e =
         let n : first (read_checks s k t r) ≡ 0 = last_check ∙ ap (λ (o : Option ℕ). cond (not (is_some o)) 13 0) (sym e) in
         read_found s (catalogues c.replicas) c.versions refl k t r j n (ap (λ (o : Option ℕ). unwrap_or o 0) (e ∙ sym chosen_is))
+
+    pub read_answered : (o : Option ReplicaIndex) → number_of o ≡ choice s u t → and_then (told_as (λ j. j.number) (ok_or o Refusal.NoReplicaQualifies)) (fetched (catalogues c.replicas) t r) ≡ read_reply s k t r
+    read_answered None e = read_unqualified e
+    read_answered (Some j) e = read_chosen j.number e

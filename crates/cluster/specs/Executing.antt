@@ -1,11 +1,12 @@
 -- The parts of an execution: what a write names, what it replaces, and what is kept of that.
-use Rattle.std.specs.Prelude.{ℕ, ◌-◌, ◌<◌, List, [], slice_index, slice_index_or}
+use Rattle.std.specs.Prelude.{ℕ, ◌-◌, ◌<◌, List, [], slice_index_or}
 use Rattle.catalogue.specs.declared.row.Row.{Row}
 use Rattle.catalogue.specs.Rows.{blank, place}
 use Rattle.versioning.specs.declared.operation.Operation.{Operation}
 use Rattle.versioning.specs.Words.{updated, advance, next}
 use Rattle.versioning.specs.Machine.{Transaction as Unfinished}
 use Rattle.cluster.specs.declared.transaction.Transaction.{Transaction}
+use Rattle.cluster.specs.Orderly.{progress_at, executed_at}
 use Rattle.cluster.specs.Transactions.{replaced_by}
 
 -- What a write names is a place of the catalogue.
@@ -25,8 +26,8 @@ replaced_row Operation.Abort rows = blank
 -- What the operation replaced at the replica j that was the last executed there but so many: its place and its row, or none.
 abbrev pub newest_replaced : Transaction → ℕ → ℕ → List (ℕ × Row)
 newest_replaced x j turn =
-    let n = slice_index x.executed j - 1 - turn in
-    replaced_by (slice_index_or x.asked n Operation.Commit) (slice_index_or (slice_index_or x.replaced j []) n blank) []
+    let n = executed_at x.progress j - 1 - turn in
+    replaced_by (slice_index_or x.asked.items n Operation.Commit) (slice_index_or (progress_at x.progress j).replaced.items n blank) []
 
 -- The transaction after its next operation at the replica j, which replaced the row old.
 abbrev pub advanced : Unfinished → ℕ → Row → Unfinished

@@ -1,11 +1,12 @@
 -- What a transaction's operations have in common: over lists, so that the transaction's own type can hold it as facts.
-use Rattle.std.specs.Prelude.{◌≡◌, ℕ, zero, suc, ◌+◌, ◌≤◌, Bool, true, false, cond, not, ◌&&◌, List, take, sum_by, nat_lt, slice_index, slice_index_or}
+use Rattle.std.specs.Prelude.{◌≡◌, ℕ, zero, suc, ◌+◌, Bool, true, false, cond, not, ◌&&◌, List, [], length, take, sum_by, nat_lt, slice_index_or}
 use Rattle.sequencing.specs.declared.mode.Mode.{Mode}
 use Rattle.sequencing.specs.Modes.{declares}
 use Rattle.versioning.specs.declared.operation.Operation.{Operation}
 use Rattle.versioning.specs.Words.{writes, released, lets_go, ended, count_writes}
 use Rattle.versioning.specs.Machine.{cost}
 use Rattle.cluster.specs.declared.transaction.Phase.{Phase}
+use Rattle.cluster.specs.declared.transaction.progress.Progress.{Progress}
 
 -- A phase is the ended one.
 abbrev pub is_ended : Phase → Bool
@@ -42,6 +43,13 @@ sum_below (suc n) f = f n + sum_below n f
 abbrev pub tally : List Operation → ℕ
 tally ops = count_writes ops + (sum_below 8 (λ t. bit (released t ops)) + bit (ended ops))
 
--- The sums have, at each k up to n, what the first k operations cost together.
-abbrev pub Priced : List ℕ → List Operation → ℕ → Type 0
-Priced sums ops n = (k : ℕ) → k ≤ n → slice_index sums k ≡ sum_by cost (take k ops)
+-- How far the replica j is; where there is none, it has executed nothing. And how many operations it has executed.
+abbrev pub progress_at : List Progress → ℕ → Progress
+progress_at ps j = slice_index_or ps j (record { replaced = record { items = [] }; cost = 0 })
+
+abbrev pub executed_at : List Progress → ℕ → ℕ
+executed_at ps j = length (progress_at ps j).replaced.items
+
+-- Each replica has what the operations that it has executed cost together.
+abbrev pub Priced : List Progress → List Operation → Type 0
+Priced ps ops = (j : ℕ) → (progress_at ps j).cost ≡ sum_by cost (take (executed_at ps j) ops)

@@ -1,5 +1,5 @@
 -- A transaction as the machine has it.
-use Rattle.std.specs.Prelude.{◌≡◌, ℕ, zero, suc, ◌<◌, Bool, cond, not, List, [], ◌∷◌, map, length, take, Some, None, Option, ◌==◌, slice_index, slice_index_or, slice_set}
+use Rattle.std.specs.Prelude.{◌≡◌, ℕ, zero, suc, ◌<◌, Bool, cond, not, List, [], ◌∷◌, map, length, Some, None, Option, ◌==◌, slice_index_or, slice_set}
 use Rattle.std.specs.List.{remove as without}
 use Rattle.catalogue.specs.declared.refusal.Refusal.{Refusal}
 use Rattle.catalogue.specs.declared.row.Row.{Row}
@@ -11,6 +11,7 @@ use Rattle.versioning.specs.declared.operation.Operation.{Operation}
 use Rattle.versioning.specs.Words.{updated, Course, beginning, ask, advance, next, waits}
 use Rattle.versioning.specs.Machine.{Transaction as Unfinished, finished, find, replace, remove, may_write, may_read, may_release, may_commit, may_abort, held_at, replaced_after}
 use Rattle.cluster.specs.declared.transaction.Transaction.{Transaction}
+use Rattle.cluster.specs.Orderly.{progress_at, executed_at}
 
 -- The rows replaced, with that of one operation more, and its place: only a write replaces one.
 abbrev pub replaced_by : Operation → Row → List (ℕ × Row) → List (ℕ × Row)
@@ -26,12 +27,12 @@ replaced_rows ops olds (suc n) = replaced_by (slice_index_or ops n Operation.Com
 
 -- The course of a transaction.
 abbrev pub course_of : Transaction → Course
-course_of x = record { declared = x.declared; asked = take x.count x.asked; executed = λ j. slice_index x.executed j }
+course_of x = record { declared = x.declared; asked = x.asked.items; executed = executed_at x.progress }
 
 -- The machine's transaction that one stands for.
 abbrev pub transaction_of : Transaction → Unfinished
 transaction_of x =
-    record { number = x.number; assigned = x.assigned; course = course_of x; replaced = λ j. replaced_rows x.asked (slice_index_or x.replaced j []) (slice_index x.executed j) }
+    record { number = x.number; assigned = x.assigned; course = course_of x; replaced = λ j. replaced_rows x.asked.items (progress_at x.progress j).replaced.items (executed_at x.progress j) }
 
 -- A transaction that begins with this declaration.
 abbrev pub begun_as : List Mode → Begun → Unfinished

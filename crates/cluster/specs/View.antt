@@ -1,6 +1,7 @@
 -- A cluster as the machine has it.
 use Rattle.std.specs.Prelude.{◌≡◌, ℕ, ◌<◌, Bool, true, cond, List, [], ◌∷◌, length, Some, None, vec_items, vec_len, Option, slice_index_or, slice_set}
 use Rattle.std.specs.List.{remove as without}
+use Rattle.std.specs.Option.{option_map}
 use Rattle.catalogue.specs.declared.row.Row.{Row}
 use Rattle.catalogue.specs.Replicated.{replica_fetch_reply}
 use Rattle.catalogue.specs.Refusals.{first, unless_refused}
@@ -10,6 +11,7 @@ use Rattle.versioning.specs.Words.{advance, next, waits}
 use Rattle.versioning.specs.declared.operation.Operation.{Operation}
 use Rattle.versioning.specs.Machine.{State, Replica, Transaction, finished, load, qualifies_at, least, and_then, known, course, asking, kept_if_refused, replica, version, rows_after, version_after, all_executed, step_reply, step_after}
 use Rattle.cluster.specs.declared.cluster.Cluster.{Cluster}
+use Rattle.cluster.specs.declared.replica_index.ReplicaIndex.{ReplicaIndex}
 use Rattle.cluster.specs.Transactions.{transactions_of, may_ask, executed_after}
 
 -- Each catalogue with the versions of its replica.
@@ -55,6 +57,10 @@ pub record StepsAt {R : Type 0} (catalogues : R → List (List Row)) (c : Cluste
 pub record StepRefused (s : State) (k j n : ℕ) : Type 0 where
   pub answer : step_reply s k j ≡ (n, None)
   pub after : step_after s k j ≡ s
+
+-- The number of a replica, if one is told.
+abbrev pub number_of : Option ReplicaIndex → Option ℕ
+number_of o = option_map (λ r. r.number) o
 
 -- The replica j can answer a read of the table t by the transaction x; the one that does.
 abbrev pub fits : State → Transaction → ℕ → ℕ → Bool

@@ -2,4 +2,5 @@
 #![tactic(auto)]
 
 pub mod cluster;
+pub mod replica_index;
 pub mod transaction;

@@ -1,7 +1,10 @@
-ghost use Rattle.std.specs.Prelude.{◌≡◌, ℕ, ◌≤◌, true, length, take, slice_index};
+ghost use Rattle.std.specs.Prelude.{◌≡◌, ℕ, ◌≤◌, true, length, sum_by};
+ghost use Rattle.versioning.specs.Machine.{cost as cost_of};
 ghost use Rattle.versioning.specs.Words.{count_writes, ended as ended_by};
-ghost use Rattle.cluster.specs.Orderly.{orderly, tally, is_ended, Priced};
+ghost use Rattle.cluster.specs.Orderly.{orderly, tally, is_ended, executed_at, Priced};
 
+use arrayvec::ArrayVec;
+use crate::transaction::progress::Progress;
 use catalogue::row::Row;
 use sequencing::mode::Mode;
 use sequencing::sequencer::Assigned;
@@ -10,6 +13,7 @@ use versioning::operation::Operation;
 pub mod asking;
 pub mod executing;
 pub mod operations;
+pub mod progress;
 pub mod tables;
 pub mod waiting;
 
@@ -23,26 +27,22 @@ pub enum Phase {
     Ended,
 }
 
-// An unfinished transaction: what it declared, was assigned and asked, how many operations each replica has executed, and the row that each replaced there.
+// An unfinished transaction: what it declared, was assigned and asked, what it asked costs together, and how far each replica is with it.
 // It asks at most 25 operations: 16 writes, a release of each table, and an end.
-#[derive(Clone, Copy)]
+#[derive(Drop)]
 pub struct Transaction {
     number: u32,
     declared: [Mode; 8],
     assigned: [Assigned; 8],
     phase: Phase,
-    asked: [Operation; 25],
-    count: usize,
-    // What the first k operations cost together, at each k: what waits is the difference of two.
-    costs: [u32; 26],
-    executed: [usize; 4],
-    replaced: [[Row; 25]; 4],
-    ghost long: { length asked ≡ 25 },
-    ghost size: { count ≤ 25 },
-    ghost phased: { ended_by (take count asked) ≡ is_ended phase },
-    ghost allowed: { orderly declared asked count ≡ true },
-    ghost modest: { count_writes (take count asked) ≤ 16 },
-    ghost tallied: { count ≤ tally (take count asked) },
-    ghost within: { (j : ℕ) → slice_index executed j ≤ count },
-    ghost priced: { Priced costs asked count },
+    asked: ArrayVec<Operation, 25>,
+    cost: u32,
+    progress: [Progress; 4],
+    ghost phased: { ended_by asked.items ≡ is_ended phase },
+    ghost allowed: { orderly declared asked.items (length asked.items) ≡ true },
+    ghost modest: { count_writes asked.items ≤ 16 },
+    ghost tallied: { length asked.items ≤ tally asked.items },
+    ghost within: { (j : ℕ) → executed_at progress j ≤ length asked.items },
+    ghost summed: { cost ≡ sum_by cost_of asked.items },
+    ghost priced: { Priced progress asked.items },
 }

@@ -1,8 +1,9 @@
 use catalogue::row::Row;
 
 // What a transaction asked, and each replica executes in the order asked.
-#[derive(Clone, Copy)]
+#[derive(Clone, Copy, Default)]
 pub enum Operation {
+    #[default]
     Commit,
     Abort,
     Release {

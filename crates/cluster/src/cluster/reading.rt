@@ -1,10 +1,11 @@
 ghost use Rattle.std.specs.Prelude.{◌≡◌, ◌<◌, length, nat_lt};
-ghost use Rattle.catalogue.specs.Refusals.{told};
+ghost use Rattle.catalogue.specs.Refusals.{told, told_as};
 ghost use Rattle.versioning.specs.Machine.{load as load_of, better as better_of, least, and_then, read_reply, read_as_reply, write_reply, write_after};
 ghost use Rattle.cluster.specs.Transactions.{transaction_of};
-ghost use Rattle.cluster.specs.View.{state_of, fits, choice, fetched};
+ghost use Rattle.cluster.specs.View.{state_of, fits, choice, fetched, number_of};
 
 use super::Cluster;
+use crate::replica_index::ReplicaIndex;
 use crate::transaction::Transaction;
 use catalogue::refusal::Refusal;
 use catalogue::replicas::Replicas;
@@ -13,9 +14,8 @@ use versioning::family::Family;
 
 impl<R: Replicas> Cluster<R> {
     // What waits at the replica, by its cost: 16 transactions at most, of 850 at most.
-    fn load(&self, replica: usize) -> u32
-        requires { replica < 4 }
-        ensures { result ≡ load_of (state_of R.Replicas.catalogues self.now) replica }
+    fn load(&self, replica: ReplicaIndex) -> u32
+        ensures { result ≡ load_of (state_of R.Replicas.catalogues self.now) replica.number }
     {
         let mut total = 0;
         for transaction in self.unfinished.iter() {
@@ -25,9 +25,8 @@ impl<R: Replicas> Cluster<R> {
     }
 
     // Whether less waits at the replica than at the other.
-    fn is_lighter(&self, replica: usize, other: usize) -> bool
-        requires { (replica < 4) × (other < 4) }
-        ensures { result ≡ nat_lt (load_of (state_of R.Replicas.catalogues self.now) replica) (load_of (state_of R.Replicas.catalogues self.now) other) }
+    fn is_lighter(&self, replica: ReplicaIndex, other: ReplicaIndex) -> bool
+        ensures { result ≡ nat_lt (load_of (state_of R.Replicas.catalogues self.now) replica.number) (load_of (state_of R.Replicas.catalogues self.now) other.number) }
     {
         self.load(replica) < self.load(other)
     }
@@ -37,43 +36,41 @@ impl<R: Replicas> Cluster<R> {
         &self,
         transaction: &Transaction,
         table: u32,
-        replica: u32,
-        best: Option<u32>,
-    ) -> Option<u32>
-        requires { (table < 8) × ((replica < length (R.Replicas.catalogues self.now.replicas)) × (best ≡ least (fits (state_of R.Replicas.catalogues self.now) (transaction_of transaction.now) table) (load_of (state_of R.Replicas.catalogues self.now)) replica)) }
-        ensures { result ≡ better_of (fits (state_of R.Replicas.catalogues self.now) (transaction_of transaction.now) table) (load_of (state_of R.Replicas.catalogues self.now)) replica best }
+        replica: ReplicaIndex,
+        best: Option<ReplicaIndex>,
+    ) -> Option<ReplicaIndex>
+        requires { (table < 8) × (replica.number < length (R.Replicas.catalogues self.now.replicas)) }
+        ensures { number_of result ≡ better_of (fits (state_of R.Replicas.catalogues self.now) (transaction_of transaction.now) table) (load_of (state_of R.Replicas.catalogues self.now)) replica.number (number_of best) }
     {
-        let j = replica as usize;
-        if !transaction.qualifies(table, j, &self.versions[j]) {
+        if !transaction.qualifies(table, replica, &self.versions[replica.number as usize]) {
             return best;
         }
         match best {
-            None => Some(replica),
-            Some(chosen) => {
-                if self.is_lighter(j, chosen as usize) {
-                    Some(replica)
-                } else {
-                    best
-                }
-            }
+            Some(chosen) if !self.is_lighter(replica, chosen) => best,
+            _ => Some(replica),
         }
     }
 
     // The replica that answers its read of the table: of those that qualify the least loaded, of equals the lowest.
-    fn choose(&self, transaction: &Transaction, table: u32) -> Option<u32>
+    fn choose(&self, transaction: &Transaction, table: u32) -> Option<ReplicaIndex>
         requires { table < 8 }
-        ensures { result ≡ choice (state_of R.Replicas.catalogues self.now) (transaction_of transaction.now) table }
+        ensures { number_of result ≡ choice (state_of R.Replicas.catalogues self.now) (transaction_of transaction.now) table }
     {
         let mut best = None;
         for replica in 0..self.replicas.count() {
-            best = self.better(transaction, table, replica, best);
+            best = self.better(transaction, table, ReplicaIndex { number: replica }, best);
         }
         best
     }
 
     // The replica that answers the read, unless a check refuses it: the answer is what is fetched there.
-    fn replica_to_read(&self, number: u32, table: u32, row: u32) -> Result<u32, Refusal>
-        ensures { and_then (told result) (fetched (R.Replicas.catalogues self.now.replicas) table row) ≡ read_reply (state_of R.Replicas.catalogues self.now) number table row }
+    fn replica_to_read(
+        &self,
+        number: u32,
+        table: u32,
+        row: u32,
+    ) -> Result<ReplicaIndex, Refusal>
+        ensures { and_then (told_as (λ r. r.number) result) (fetched (R.Replicas.catalogues self.now.replicas) table row) ≡ read_reply (state_of R.Replicas.catalogues self.now) number table row }
     {
         if number >= self.sequencer.begun() {
             return Err(Refusal::UnknownTransaction);
@@ -83,10 +80,8 @@ impl<R: Replicas> Cluster<R> {
         };
         let transaction = &self.unfinished[i];
         transaction.may_read(table, row)?;
-        match self.choose(transaction, table) {
-            Some(replica) => Ok(replica),
-            None => Err(Refusal::NoReplicaQualifies),
-        }
+        self.choose(transaction, table)
+            .ok_or(Refusal::NoReplicaQualifies)
     }
 
     pub fn read(&mut self, number: u32, table: u32, row: u32) -> Result<(Row, u32), Refusal>
@@ -95,8 +90,8 @@ impl<R: Replicas> Cluster<R> {
         ensures kept { R.Replicas.lents self.new.replicas ≡ R.Replicas.lents self.old.replicas }
     {
         let replica = self.replica_to_read(number, table, row)?;
-        let found = self.replicas.fetch(replica, table, row)?;
-        Ok((found, replica))
+        let found = self.replicas.fetch(replica.number, table, row)?;
+        Ok((found, replica.number))
     }
 
     // The row found as a value of the kind; refused last where it is none.
@@ -112,10 +107,8 @@ impl<R: Replicas> Cluster<R> {
         ensures kept { R.Replicas.lents self.new.replicas ≡ R.Replicas.lents self.old.replicas }
     {
         let (found, replica) = self.read(number, table, row)?;
-        match F::unpack(kind, found) {
-            Some(value) => Ok((value, replica)),
-            None => Err(Refusal::NoValue),
-        }
+        let value = F::unpack(kind, found).ok_or(Refusal::NoValue)?;
+        Ok((value, replica))
     }
 
     // The row that the value packs into is written.

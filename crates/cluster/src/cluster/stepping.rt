@@ -6,22 +6,22 @@ ghost use Rattle.cluster.specs.Transactions.{transaction_of, transactions_of, ma
 ghost use Rattle.cluster.specs.View.{state_of, stepped_at, StepsAt, StepRefused};
 
 use super::Cluster;
+use crate::replica_index::ReplicaIndex;
 use crate::transaction::Transaction;
 use catalogue::refusal::Refusal;
 use catalogue::replicas::Replicas;
 
 impl<R: Replicas> Cluster<R> {
     // Whether the next operation of the transaction may be executed at the replica, at the versions there.
-    fn may_execute(&self, transaction: &Transaction, replica: usize) -> Result<(), Refusal>
-        requires { replica < 4 }
-        ensures { told result ≡ may_execute_reply (transaction_of transaction.now) replica (slice_index_or self.now.versions replica []) }
+    fn may_execute(&self, transaction: &Transaction, replica: ReplicaIndex) -> Result<(), Refusal>
+        ensures { told result ≡ may_execute_reply (transaction_of transaction.now) replica.number (slice_index_or self.now.versions replica.number []) }
     {
-        transaction.may_execute(replica, &self.versions[replica])
+        transaction.may_execute(replica, &self.versions[replica.number as usize])
     }
 
     // The place among the unfinished whose next operation the step executes, unless a check refuses it.
-    fn may_step(&self, number: u32, replica: u32) -> Result<usize, Refusal>
-        ensures { MatchResult result (StepsAt R.Replicas.catalogues self.now number replica) (λ refusal. StepRefused (state_of R.Replicas.catalogues self.now) number replica (number_of refusal)) }
+    fn may_step(&self, number: u32, replica: u32) -> Result<(usize, ReplicaIndex), Refusal>
+        ensures { MatchResult result (λ at. (at.1.number ≡ replica) × StepsAt R.Replicas.catalogues self.now number replica at.0) (λ refusal. StepRefused (state_of R.Replicas.catalogues self.now) number replica (number_of refusal)) }
     {
         if replica >= self.replica_count() {
             return Err(Refusal::UnknownReplica);
@@ -32,21 +32,22 @@ impl<R: Replicas> Cluster<R> {
         let Some(i) = self.position(number) else {
             return Err(Refusal::NothingWaits);
         };
-        self.may_execute(&self.unfinished[i], replica as usize)?;
-        Ok(i)
+        let replica = ReplicaIndex { number: replica };
+        self.may_execute(&self.unfinished[i], replica)?;
+        Ok((i, replica))
     }
 
     // Executes the next operation of the i-th unfinished transaction at the replica. Executed everywhere to its end, it gives up its place.
-    fn execute(&mut self, i: usize, replica: usize)
-        requires place { (i < vec_len self.old.unfinished) × (replica < length (R.Replicas.catalogues self.old.replicas)) }
-        requires waits { waits (slice_index_or (transactions_of self.old.unfinished.items) i finished).course replica ≡ true }
-        ensures after { state_of R.Replicas.catalogues self.new ≡ stepped_at (state_of R.Replicas.catalogues self.old) i replica }
+    fn execute(&mut self, i: usize, replica: ReplicaIndex)
+        requires place { (i < vec_len self.old.unfinished) × (replica.number < length (R.Replicas.catalogues self.old.replicas)) }
+        requires waits { waits (slice_index_or (transactions_of self.old.unfinished.items) i finished).course replica.number ≡ true }
+        ensures after { state_of R.Replicas.catalogues self.new ≡ stepped_at (state_of R.Replicas.catalogues self.old) i replica.number }
         ensures kept { R.Replicas.lents self.new.replicas ≡ R.Replicas.lents self.old.replicas }
     {
-        let count = self.replicas.count() as usize;
-        let mut versions = self.versions[replica];
+        let count = self.replicas.count();
+        let mut versions = self.versions[replica.number as usize];
         self.unfinished[i].execute(&mut self.replicas, replica, &mut versions);
-        self.versions[replica] = versions;
+        self.versions[replica.number as usize] = versions;
         if self.unfinished[i].all_executed(count) {
             let _ = self.unfinished.remove(i);
         }
@@ -57,8 +58,8 @@ impl<R: Replicas> Cluster<R> {
         ensures after { state_of R.Replicas.catalogues self.new ≡ step_after (state_of R.Replicas.catalogues self.old) number replica }
         ensures kept { R.Replicas.lents self.new.replicas ≡ R.Replicas.lents self.old.replicas }
     {
-        let i = self.may_step(number, replica)?;
-        self.execute(i, replica as usize);
+        let (i, replica) = self.may_step(number, replica)?;
+        self.execute(i, replica);
         Ok(())
     }
 }

@@ -6,7 +6,9 @@ ghost use Rattle.versioning.specs.Machine.{may_write, may_release, may_abort, pa
 ghost use Rattle.cluster.specs.Transactions.{course_of, transaction_of, begun_as, may_ask_reply, asked_after, may_read_reply};
 
 use super::operations::{CLASSES, cost, count_writes};
-use super::{BLANK, Phase, Transaction};
+use super::progress::Progress;
+use super::{Phase, Transaction};
+use arrayvec::ArrayVec;
 use catalogue::refusal::Refusal;
 use catalogue::row::{TABLES, place_of};
 use sequencing::mode::Mode;
@@ -26,11 +28,14 @@ impl Transaction {
             declared,
             assigned,
             phase: Phase::Open,
-            asked: [Operation::Commit; 25],
-            count: 0,
-            costs: [0; 26],
-            executed: [0; 4],
-            replaced: [[BLANK; 25]; 4],
+            asked: ArrayVec::new(),
+            cost: 0,
+            progress: [
+                Progress::new(),
+                Progress::new(),
+                Progress::new(),
+                Progress::new(),
+            ],
         }
     }
 
@@ -45,7 +50,7 @@ impl Transaction {
         if !self.declares(table) {
             return Err(Refusal::NotDeclared);
         }
-        if self.releases_within(self.count, table) {
+        if self.has_asked_release(table) {
             return Err(Refusal::AlreadyReleased);
         }
         Ok(())
@@ -62,10 +67,10 @@ impl Transaction {
         if !self.writes(table) {
             return Err(Refusal::NotDeclared);
         }
-        if self.releases_within(self.count, table) {
+        if self.has_asked_release(table) {
             return Err(Refusal::AlreadyReleased);
         }
-        if count_writes(&self.asked[0..self.count]) >= MOST_WRITES {
+        if count_writes(self.asked.as_slice()) >= MOST_WRITES {
             return Err(Refusal::TooManyWrites);
         }
         Ok(())
@@ -81,7 +86,7 @@ impl Transaction {
         if !self.declares(table) {
             return Err(Refusal::NotDeclared);
         }
-        if self.releases_within(self.count, table) {
+        if self.has_asked_release(table) {
             return Err(Refusal::AlreadyReleased);
         }
         Ok(())
@@ -91,7 +96,7 @@ impl Transaction {
         requires { table < 8 }
         ensures { result ≡ (writes (mode (course_of self.now) table) && released table (course_of self.now).asked) }
     {
-        self.writes(table) && self.releases_within(self.count, table)
+        self.writes(table) && self.has_asked_release(table)
     }
 
     // Whether it asked the release of a table that it declares for writing.
@@ -145,10 +150,8 @@ impl Transaction {
                 Phase::Ended
             }
         };
-        let n = self.count;
-        self.asked[n] = operation;
-        self.costs[n + 1] = self.costs[n] + cost(operation);
-        self.count = n + 1;
+        self.asked.push(operation);
+        self.cost += cost(operation);
         self.phase = phase;
         Ok(())
     }

@@ -5,71 +5,73 @@ ghost use Rattle.catalogue.specs.Replicated.{catalogue_of};
 ghost use Rattle.sequencing.specs.Modes.{tables};
 ghost use Rattle.versioning.specs.Words.{waits as waits_at, next as next_at, done, has_table, is_write as is_write_of};
 ghost use Rattle.versioning.specs.Machine.{undo, rows_after, version_after};
+ghost use Rattle.cluster.specs.Orderly.{executed_at};
 ghost use Rattle.cluster.specs.Transactions.{course_of, transaction_of, replaced_by, executed_after};
 ghost use Rattle.cluster.specs.Executing.{InRange, replaced_row, newest_replaced, advanced};
 
-use super::operations::is_write;
+use super::operations::{cost, is_write};
 use super::{BLANK, Transaction};
+use crate::replica_index::ReplicaIndex;
 use catalogue::replicas::Replicas;
 use catalogue::row::{Row, TABLES};
 use versioning::operation::Operation;
 
 // Puts the value there, and answers the row that it replaces.
-fn overwrite<R: Replicas>(replicas: &mut R, replica: usize, table: u32, row: u32, value: Row) -> Row
-    requires { (replica < 4) × ((replica < length (R.Replicas.catalogues replicas.old)) × ((table < 8) × (row < 64))) }
-    ensures rows { R.Replicas.catalogues replicas.new ≡ slice_set (R.Replicas.catalogues replicas.old) replica (slice_set (catalogue_of (R.Replicas.catalogues replicas.old) replica) (place table row) value) }
+fn overwrite<R: Replicas>(replicas: &mut R, replica: ReplicaIndex, table: u32, row: u32, value: Row) -> Row
+    requires { (replica.number < length (R.Replicas.catalogues replicas.old)) × ((table < 8) × (row < 64)) }
+    ensures rows { R.Replicas.catalogues replicas.new ≡ slice_set (R.Replicas.catalogues replicas.old) replica.number (slice_set (catalogue_of (R.Replicas.catalogues replicas.old) replica.number) (place table row) value) }
     ensures kept { R.Replicas.lents replicas.new ≡ R.Replicas.lents replicas.old }
-    ensures old { result ≡ slice_index_or (catalogue_of (R.Replicas.catalogues replicas.old) replica) (place table row) blank }
+    ensures old { result ≡ slice_index_or (catalogue_of (R.Replicas.catalogues replicas.old) replica.number) (place table row) blank }
 {
-    let old = replicas.fetch(replica as u32, table, row).unwrap();
-    let _ = replicas.put(replica as u32, table, row, value);
+    let old = replicas.fetch(replica.number, table, row).unwrap();
+    let _ = replicas.put(replica.number, table, row, value);
     old
 }
 
 // Puts back what the operation replaced.
-fn restore<R: Replicas>(replicas: &mut R, replica: usize, operation: Operation, old: Row)
-    requires { (replica < 4) × ((replica < length (R.Replicas.catalogues replicas.old)) × (InRange operation)) }
-    ensures rows { R.Replicas.catalogues replicas.new ≡ slice_set (R.Replicas.catalogues replicas.old) replica (undo (replaced_by operation old []) (catalogue_of (R.Replicas.catalogues replicas.old) replica)) }
+fn restore<R: Replicas>(replicas: &mut R, replica: ReplicaIndex, operation: Operation, old: Row)
+    requires { (replica.number < length (R.Replicas.catalogues replicas.old)) × (InRange operation) }
+    ensures rows { R.Replicas.catalogues replicas.new ≡ slice_set (R.Replicas.catalogues replicas.old) replica.number (undo (replaced_by operation old []) (catalogue_of (R.Replicas.catalogues replicas.old) replica.number)) }
     ensures kept { R.Replicas.lents replicas.new ≡ R.Replicas.lents replicas.old }
 {
     if let Operation::Write { table, row, .. } = operation {
-        let _ = replicas.put(replica as u32, table, row, old);
+        let _ = replicas.put(replica.number, table, row, old);
     }
 }
 
 impl Transaction {
     // Puts back what it replaced at the replica with the newest operation there, or with the one so many turns before it.
-    fn restore_newest<R: Replicas>(&self, replicas: &mut R, replica: usize, turn: usize)
-        requires { (replica < 4) × ((replica < length (R.Replicas.catalogues replicas.old)) × (turn < slice_index self.now.executed replica)) }
-        ensures rows { R.Replicas.catalogues replicas.new ≡ slice_set (R.Replicas.catalogues replicas.old) replica (undo (newest_replaced self.now replica turn) (catalogue_of (R.Replicas.catalogues replicas.old) replica)) }
+    fn restore_newest<R: Replicas>(&self, replicas: &mut R, replica: ReplicaIndex, turn: usize)
+        requires { (replica.number < length (R.Replicas.catalogues replicas.old)) × (turn < executed_at self.now.progress replica.number) }
+        ensures rows { R.Replicas.catalogues replicas.new ≡ slice_set (R.Replicas.catalogues replicas.old) replica.number (undo (newest_replaced self.now replica.number turn) (catalogue_of (R.Replicas.catalogues replicas.old) replica.number)) }
         ensures kept { R.Replicas.lents replicas.new ≡ R.Replicas.lents replicas.old }
     {
-        let n = self.executed[replica] - 1 - turn;
+        let n = self.executed(replica) - 1 - turn;
         restore(
             replicas,
             replica,
             self.asked_at(n),
-            self.replaced[replica][n],
+            self.progress(replica).replaced[n],
         );
     }
 
     // Puts back the rows that it replaced at the replica, the newest first.
-    fn restore_all<R: Replicas>(&self, replicas: &mut R, replica: usize)
-        requires { (replica < 4) × (replica < length (R.Replicas.catalogues replicas.old)) }
-        ensures rows { R.Replicas.catalogues replicas.new ≡ slice_set (R.Replicas.catalogues replicas.old) replica (undo ((transaction_of self.now).replaced replica) (catalogue_of (R.Replicas.catalogues replicas.old) replica)) }
+    fn restore_all<R: Replicas>(&self, replicas: &mut R, replica: ReplicaIndex)
+        requires { replica.number < length (R.Replicas.catalogues replicas.old) }
+        ensures rows { R.Replicas.catalogues replicas.new ≡ slice_set (R.Replicas.catalogues replicas.old) replica.number (undo ((transaction_of self.now).replaced replica.number) (catalogue_of (R.Replicas.catalogues replicas.old) replica.number)) }
         ensures kept { R.Replicas.lents replicas.new ≡ R.Replicas.lents replicas.old }
     {
-        for turn in 0..self.executed[replica] {
+        for turn in 0..self.executed(replica) {
             self.restore_newest(replicas, replica, turn);
         }
     }
 
     // The operation on the rows of the replica; answers the row that it replaces, which is blank for all but a write.
-    fn apply<R: Replicas>(&self, replicas: &mut R, replica: usize, operation: Operation) -> Row
-        requires { (replica < 4) × ((replica < length (R.Replicas.catalogues replicas.old)) × (InRange operation)) }
-        ensures rows { R.Replicas.catalogues replicas.new ≡ slice_set (R.Replicas.catalogues replicas.old) replica (rows_after operation ((transaction_of self.now).replaced replica) (catalogue_of (R.Replicas.catalogues replicas.old) replica)) }
+    fn apply<R: Replicas>(&self, replicas: &mut R, replica: ReplicaIndex, operation: Operation) -> Row
+        requires { (replica.number < length (R.Replicas.catalogues replicas.old)) × (InRange operation) }
+        ensures rows { R.Replicas.catalogues replicas.new ≡ slice_set (R.Replicas.catalogues replicas.old) replica.number (rows_after operation ((transaction_of self.now).replaced replica.number) (catalogue_of (R.Replicas.catalogues replicas.old) replica.number)) }
         ensures kept { R.Replicas.lents replicas.new ≡ R.Replicas.lents replicas.old }
-        ensures old { result ≡ replaced_row operation (catalogue_of (R.Replicas.catalogues replicas.old) replica) }
+        ensures old { result ≡ replaced_row operation (catalogue_of (R.Replicas.catalogues replicas.old) replica.number) }
     {
         match operation {
             Operation::Write {
@@ -87,28 +89,28 @@ impl Transaction {
     }
 
     // Its next operation on the rows of the replica; answers the row that it replaces.
-    fn perform<R: Replicas>(&self, replicas: &mut R, replica: usize) -> Row
-        requires { (replica < 4) × ((replica < length (R.Replicas.catalogues replicas.old)) × (waits_at (course_of self.now) replica ≡ true)) }
-        ensures rows { R.Replicas.catalogues replicas.new ≡ slice_set (R.Replicas.catalogues replicas.old) replica (rows_after (next_at (course_of self.now) replica) ((transaction_of self.now).replaced replica) (catalogue_of (R.Replicas.catalogues replicas.old) replica)) }
+    fn perform<R: Replicas>(&self, replicas: &mut R, replica: ReplicaIndex) -> Row
+        requires { (replica.number < length (R.Replicas.catalogues replicas.old)) × (waits_at (course_of self.now) replica.number ≡ true) }
+        ensures rows { R.Replicas.catalogues replicas.new ≡ slice_set (R.Replicas.catalogues replicas.old) replica.number (rows_after (next_at (course_of self.now) replica.number) ((transaction_of self.now).replaced replica.number) (catalogue_of (R.Replicas.catalogues replicas.old) replica.number)) }
         ensures kept { R.Replicas.lents replicas.new ≡ R.Replicas.lents replicas.old }
-        ensures old { result ≡ replaced_row (next_at (course_of self.now) replica) (catalogue_of (R.Replicas.catalogues replicas.old) replica) }
+        ensures old { result ≡ replaced_row (next_at (course_of self.now) replica.number) (catalogue_of (R.Replicas.catalogues replicas.old) replica.number) }
     {
         self.apply(replicas, replica, self.next(replica))
     }
 
     // Whether its next operation at the replica lets go of the table.
-    fn lets_go_of(&self, replica: usize, table: u32) -> bool
-        requires { (replica < 4) × ((table < 8) × (waits_at (course_of self.now) replica ≡ true)) }
-        ensures { result ≡ (not (is_write_of (next_at (course_of self.now) replica)) && has_table (course_of self.now) (done (course_of self.now) replica) (next_at (course_of self.now) replica) table) }
+    fn lets_go_of(&self, replica: ReplicaIndex, table: u32) -> bool
+        requires { (table < 8) × (waits_at (course_of self.now) replica.number ≡ true) }
+        ensures { result ≡ (not (is_write_of (next_at (course_of self.now) replica.number)) && has_table (course_of self.now) (done (course_of self.now) replica.number) (next_at (course_of self.now) replica.number) table) }
     {
         !is_write(self.next(replica)) && self.next_has_table(replica, table)
     }
 
     // Adds one to the version of each table that its next operation lets go of.
-    fn let_go(&self, replica: usize, versions: &mut [u32; 8])
-        requires place { (replica < 4) × (waits_at (course_of self.now) replica ≡ true) }
-        requires room { (t : ℕ) → is_write_of (next_at (course_of self.now) replica) ≡ false → has_table (course_of self.now) (done (course_of self.now) replica) (next_at (course_of self.now) replica) t ≡ true → slice_index versions.old t + 1 < 2 ^ 32 }
-        ensures { versions.new ≡ tables (λ t. version_after (course_of self.now) replica t (slice_index versions.old t)) }
+    fn let_go(&self, replica: ReplicaIndex, versions: &mut [u32; 8])
+        requires place { waits_at (course_of self.now) replica.number ≡ true }
+        requires room { (t : ℕ) → is_write_of (next_at (course_of self.now) replica.number) ≡ false → has_table (course_of self.now) (done (course_of self.now) replica.number) (next_at (course_of self.now) replica.number) t ≡ true → slice_index versions.old t + 1 < 2 ^ 32 }
+        ensures { versions.new ≡ tables (λ t. version_after (course_of self.now) replica.number t (slice_index versions.old t)) }
     {
         for table in 0..TABLES {
             if self.lets_go_of(replica, table) {
@@ -118,28 +120,27 @@ impl Transaction {
     }
 
     // One operation more is executed at the replica, and the row that it replaced there is kept.
-    fn advance(&mut self, replica: usize, old: Row)
-        requires { (replica < 4) × (waits_at (course_of self.old) replica ≡ true) }
-        ensures { transaction_of self.new ≡ advanced (transaction_of self.old) replica old }
+    fn advance(&mut self, replica: ReplicaIndex, old: Row)
+        requires { waits_at (course_of self.old) replica.number ≡ true }
+        ensures { transaction_of self.new ≡ advanced (transaction_of self.old) replica.number old }
     {
-        let n = self.executed[replica];
-        self.replaced[replica][n] = old;
-        self.executed[replica] = n + 1;
+        let price = cost(self.next(replica));
+        self.progress[replica.number as usize].record(old, price);
     }
 
     // Executes its next operation at the replica: on the rows there, on the versions there, and on itself.
     pub(crate) fn execute<R: Replicas>(
         &mut self,
         replicas: &mut R,
-        replica: usize,
+        replica: ReplicaIndex,
         versions: &mut [u32; 8],
     )
-        requires place { (replica < 4) × ((replica < length (R.Replicas.catalogues replicas.old)) × (waits_at (transaction_of self.old).course replica ≡ true)) }
-        requires room { (t : ℕ) → is_write_of (next_at (transaction_of self.old).course replica) ≡ false → has_table (transaction_of self.old).course (done (transaction_of self.old).course replica) (next_at (transaction_of self.old).course replica) t ≡ true → slice_index versions.old t + 1 < 2 ^ 32 }
-        ensures rows { R.Replicas.catalogues replicas.new ≡ slice_set (R.Replicas.catalogues replicas.old) replica (rows_after (next_at (transaction_of self.old).course replica) ((transaction_of self.old).replaced replica) (catalogue_of (R.Replicas.catalogues replicas.old) replica)) }
+        requires place { (replica.number < length (R.Replicas.catalogues replicas.old)) × (waits_at (transaction_of self.old).course replica.number ≡ true) }
+        requires room { (t : ℕ) → is_write_of (next_at (transaction_of self.old).course replica.number) ≡ false → has_table (transaction_of self.old).course (done (transaction_of self.old).course replica.number) (next_at (transaction_of self.old).course replica.number) t ≡ true → slice_index versions.old t + 1 < 2 ^ 32 }
+        ensures rows { R.Replicas.catalogues replicas.new ≡ slice_set (R.Replicas.catalogues replicas.old) replica.number (rows_after (next_at (transaction_of self.old).course replica.number) ((transaction_of self.old).replaced replica.number) (catalogue_of (R.Replicas.catalogues replicas.old) replica.number)) }
         ensures kept { R.Replicas.lents replicas.new ≡ R.Replicas.lents replicas.old }
-        ensures versions { versions.new ≡ tables (λ t. version_after (transaction_of self.old).course replica t (slice_index versions.old t)) }
-        ensures after { transaction_of self.new ≡ executed_after (transaction_of self.old) replica (catalogue_of (R.Replicas.catalogues replicas.old) replica) }
+        ensures versions { versions.new ≡ tables (λ t. version_after (transaction_of self.old).course replica.number t (slice_index versions.old t)) }
+        ensures after { transaction_of self.new ≡ executed_after (transaction_of self.old) replica.number (catalogue_of (R.Replicas.catalogues replicas.old) replica.number) }
     {
         let old = self.perform(replicas, replica);
         self.let_go(replica, versions);

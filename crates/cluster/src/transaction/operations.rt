@@ -1,5 +1,5 @@
 // What is to be told of an operation, and of several that were asked one after the other.
-ghost use Rattle.std.specs.Prelude.{◌≡◌, ◌≤◌, length, sum_by};
+ghost use Rattle.std.specs.Prelude.{◌≡◌, ◌≤◌};
 ghost use Rattle.sequencing.specs.Modes.{some};
 ghost use Rattle.versioning.specs.Words.{is_release, is_write as is_write_of, is_write_at, released, count_writes as count_writes_of};
 ghost use Rattle.versioning.specs.Machine.{cost as cost_of};
@@ -63,13 +63,7 @@ pub(super) fn any_releases(operations: &[Operation], table: u32) -> bool
 pub(super) fn count_writes(operations: &[Operation]) -> usize
     ensures { result ≡ count_writes_of operations.now }
 {
-    let mut count = 0;
-    for operation in operations {
-        if is_write(*operation) {
-            count += 1;
-        }
-    }
-    count
+    operations.iter().filter(|o| is_write(**o)).count()
 }
 
 // A class that is not in the table, which no accepted write has, costs nothing.
@@ -82,17 +76,4 @@ pub(super) fn cost(operation: Operation) -> u32
         Operation::Write { .. } => 0,
         Operation::Release { .. } | Operation::Commit | Operation::Abort => 1,
     }
-}
-
-// What all of them cost. A transaction keeps such sums for its own operations, so that nothing calls this now.
-pub(super) fn cost_of_all(operations: &[Operation]) -> u32
-    requires { length operations.now ≤ 25 }
-    ensures is { result ≡ sum_by cost_of operations.now }
-    ensures most { result ≤ 850 }
-{
-    let mut total = 0;
-    for operation in operations {
-        total += cost(*operation);
-    }
-    total
 }

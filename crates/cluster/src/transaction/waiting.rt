@@ -5,11 +5,14 @@ ghost use Rattle.sequencing.specs.declared.sequencer.Assigned.{Assigned as Assig
 ghost use Rattle.versioning.specs.declared.operation.Operation.{Operation as OperationOf};
 ghost use Rattle.versioning.specs.Words.{waits as waits_at, next as next_at, waiting as waiting_at, done, released, has_table};
 ghost use Rattle.versioning.specs.Machine.{admits as admits_of, held_at, qualifies_at, cost_left as cost_left_at, all_executed as all_executed_by};
+ghost use Rattle.cluster.specs.Orderly.{progress_at, executed_at};
 ghost use Rattle.cluster.specs.Transactions.{course_of, transaction_of, may_execute_reply};
 ghost use Rattle.cluster.specs.Executing.{InRange};
 
 use super::operations::any_writes_to;
+use super::progress::Progress;
 use super::{Phase, Transaction};
+use crate::replica_index::ReplicaIndex;
 use catalogue::refusal::Refusal;
 use catalogue::row::TABLES;
 use sequencing::sequencer::Assigned;
@@ -33,44 +36,57 @@ impl Transaction {
         self.number
     }
 
-    // Whether an operation of it waits at the replica.
-    pub(crate) fn waits(&self, replica: usize) -> bool
-        requires { replica < 4 }
-        ensures { result ≡ waits_at (transaction_of self.now).course replica }
+    // How far the replica is with it.
+    pub(super) fn progress(&self, replica: ReplicaIndex) -> &Progress
+        ensures { result.now ≡ progress_at self.now.progress replica.number }
     {
-        self.executed[replica] < self.count
+        &self.progress[replica.number as usize]
+    }
+
+    // How many of its operations the replica has executed.
+    pub(super) fn executed(&self, replica: ReplicaIndex) -> usize
+        ensures is { result ≡ executed_at self.now.progress replica.number }
+        ensures within { result ≤ length self.now.asked.items }
+    {
+        self.progress(replica).executed()
+    }
+
+    // Whether an operation of it waits at the replica.
+    pub(crate) fn waits(&self, replica: ReplicaIndex) -> bool
+        ensures { result ≡ waits_at (transaction_of self.now).course replica.number }
+    {
+        self.executed(replica) < self.asked.len()
     }
 
     // The n-th operation that it asked.
     pub(super) fn asked_at(&self, n: usize) -> Operation
-        requires { n < self.now.count }
-        ensures is { result ≡ slice_index_or self.now.asked n OperationOf.Commit }
+        requires { n < length self.now.asked.items }
+        ensures is { result ≡ slice_index_or self.now.asked.items n OperationOf.Commit }
         ensures range { InRange result }
     {
         self.asked[n]
     }
 
     // The next operation at the replica.
-    pub(super) fn next(&self, replica: usize) -> Operation
-        requires { (replica < 4) × (waits_at (course_of self.now) replica ≡ true) }
-        ensures is { result ≡ next_at (course_of self.now) replica }
+    pub(super) fn next(&self, replica: ReplicaIndex) -> Operation
+        requires { (waits_at (course_of self.now) replica.number ≡ true) }
+        ensures is { result ≡ next_at (course_of self.now) replica.number }
         ensures range { InRange result }
     {
-        self.asked_at(self.executed[replica])
+        self.asked_at(self.executed(replica))
     }
 
     // Whether the replica has executed its release of the table.
-    fn has_released(&self, replica: usize, table: u32) -> bool
-        requires { replica < 4 }
-        ensures { result ≡ released table (done (course_of self.now) replica) }
+    fn has_released(&self, replica: ReplicaIndex, table: u32) -> bool
+        ensures { result ≡ released table (done (course_of self.now) replica.number) }
     {
-        self.releases_within(self.executed[replica], table)
+        self.releases_within(self.executed(replica), table)
     }
 
     // Whether the table is one of the next operation's at the replica.
-    pub(super) fn next_has_table(&self, replica: usize, table: u32) -> bool
-        requires { (replica < 4) × ((table < 8) × (waits_at (course_of self.now) replica ≡ true)) }
-        ensures { result ≡ has_table (course_of self.now) (done (course_of self.now) replica) (next_at (course_of self.now) replica) table }
+    pub(super) fn next_has_table(&self, replica: ReplicaIndex, table: u32) -> bool
+        requires { (table < 8) × (waits_at (course_of self.now) replica.number ≡ true) }
+        ensures { result ≡ has_table (course_of self.now) (done (course_of self.now) replica.number) (next_at (course_of self.now) replica.number) table }
     {
         match self.next(replica) {
             Operation::Write { table: written, .. } => table == written,
@@ -81,17 +97,17 @@ impl Transaction {
     }
 
     // Whether the table, at this version, holds the next operation back at the replica.
-    fn is_held_by(&self, replica: usize, table: u32, version: u32) -> bool
-        requires { (replica < 4) × ((table < 8) × (waits_at (course_of self.now) replica ≡ true)) }
-        ensures { result ≡ (has_table (course_of self.now) (done (course_of self.now) replica) (next_at (course_of self.now) replica) table && not (admits_of (slice_index_or self.now.assigned table AssignedOf.None) version)) }
+    fn is_held_by(&self, replica: ReplicaIndex, table: u32, version: u32) -> bool
+        requires { (table < 8) × (waits_at (course_of self.now) replica.number ≡ true) }
+        ensures { result ≡ (has_table (course_of self.now) (done (course_of self.now) replica.number) (next_at (course_of self.now) replica.number) table && not (admits_of (slice_index_or self.now.assigned table AssignedOf.None) version)) }
     {
         self.next_has_table(replica, table) && !admits(self.assigned[table as usize], version)
     }
 
     // Whether its next operation is held back at the replica, where the tables have these versions.
-    pub(crate) fn is_held(&self, replica: usize, versions: &[u32; 8]) -> bool
-        requires { (replica < 4) × (waits_at (transaction_of self.now).course replica ≡ true) }
-        ensures { result ≡ held_at (transaction_of self.now) replica versions.now }
+    pub(crate) fn is_held(&self, replica: ReplicaIndex, versions: &[u32; 8]) -> bool
+        requires { (waits_at (transaction_of self.now).course replica.number ≡ true) }
+        ensures { result ≡ held_at (transaction_of self.now) replica.number versions.now }
     {
         for table in 0..TABLES {
             if self.is_held_by(replica, table, versions[table as usize]) {
@@ -102,9 +118,8 @@ impl Transaction {
     }
 
     // Whether its next operation may be executed at the replica, as far as it alone decides.
-    pub(crate) fn may_execute(&self, replica: usize, versions: &[u32; 8]) -> Result<(), Refusal>
-        requires { replica < 4 }
-        ensures { told result ≡ may_execute_reply (transaction_of self.now) replica versions.now }
+    pub(crate) fn may_execute(&self, replica: ReplicaIndex, versions: &[u32; 8]) -> Result<(), Refusal>
+        ensures { told result ≡ may_execute_reply (transaction_of self.now) replica.number versions.now }
     {
         if !self.waits(replica) {
             return Err(Refusal::NothingWaits);
@@ -116,18 +131,17 @@ impl Transaction {
     }
 
     // The operations that wait at the replica.
-    fn waiting(&self, replica: usize) -> &[Operation]
-        requires { replica < 4 }
-        ensures are { result.now ≡ waiting_at (course_of self.now) replica }
+    fn waiting(&self, replica: ReplicaIndex) -> &[Operation]
+        ensures are { result.now ≡ waiting_at (course_of self.now) replica.number }
         ensures few { length result.now ≤ 25 }
     {
-        &self.asked[self.executed[replica]..self.count]
+        &self.asked[self.executed(replica)..]
     }
 
     // Whether the replica can answer its read of the table.
-    pub(crate) fn qualifies(&self, table: u32, replica: usize, versions: &[u32; 8]) -> bool
-        requires { (table < 8) × (replica < 4) }
-        ensures { result ≡ qualifies_at (transaction_of self.now) table replica versions.now }
+    pub(crate) fn qualifies(&self, table: u32, replica: ReplicaIndex, versions: &[u32; 8]) -> bool
+        requires { table < 8 }
+        ensures { result ≡ qualifies_at (transaction_of self.now) table replica.number versions.now }
     {
         let t = table as usize;
         admits(self.assigned[t], versions[t])
@@ -135,16 +149,15 @@ impl Transaction {
     }
 
     // What it still costs at the replica: 25 operations at most, each 34 at most.
-    pub(crate) fn cost_left(&self, replica: usize) -> u32
-        requires { replica < 4 }
-        ensures is { result ≡ cost_left_at (transaction_of self.now) replica }
+    pub(crate) fn cost_left(&self, replica: ReplicaIndex) -> u32
+        ensures is { result ≡ cost_left_at (transaction_of self.now) replica.number }
         ensures most { result ≤ 850 }
     {
-        self.costs[self.count] - self.costs[self.executed[replica]]
+        self.cost - self.progress(replica).cost
     }
 
     // Whether each of so many replicas has executed it to its end.
-    pub(crate) fn all_executed(&self, replicas: usize) -> bool
+    pub(crate) fn all_executed(&self, replicas: u32) -> bool
         requires { replicas ≤ 4 }
         ensures { result ≡ all_executed_by replicas (transaction_of self.now).course }
     {
@@ -152,7 +165,7 @@ impl Transaction {
             return false;
         }
         for replica in 0..replicas {
-            if self.waits(replica) {
+            if self.waits(ReplicaIndex { number: replica }) {
                 return false;
             }
         }

@@ -20,12 +20,12 @@ execute-requires g c =
     let items = vec_items s.unfinished in
     let xs = transactions_of items in
     let x = c.index_mut.result.now in
-    let j = c.args.replica in
+    let j = c.args.replica.number in
     let within : c.args.i < length items = omega (arith, c.requires.place.0, s.unfinished.ok.0) in
     let shown = shown_at items c.args.i x within c.index_mut.ensures.value in
     let w : waits (course_of x) j ≡ true = sym (ap (λ (u : Unfinished). waits u.course j) shown) ∙ c.requires.waits in
     record {
-      place = (omega (arith, (g.R.Replicas.whole s.replicas).few, c.requires.place.1), (c.requires.place.1, w));
+      place = (c.requires.place.1, w);
       room = λ t n h.
           let held = next_tables x j t w n h in
           let lt : t < 8 = declared_below (course_of x) t held.0 in
@@ -35,15 +35,12 @@ execute-requires g c =
 pub all_executed-requires : goal.all_executed-requires
 all_executed-requires g c = omega (arith, c.count-count.ensures, (g.R.Replicas.whole c.args.self.now.replicas).few)
 
-pub bounds-self-replica-2 : goal.bounds-self-replica-2
-bounds-self-replica-2 g c = omega (arith, (g.R.Replicas.whole c.args.self.now.replicas).few, c.requires.place.1)
-
 pub invariant_of-self : goal.invariant_of-self
 invariant_of-self g c =
     let s = c.args.self.now in
     let items = vec_items s.unfinished in
     let i = c.args.i in
-    let j = c.args.replica in
+    let j = c.args.replica.number in
     let x = c.index_mut.result.now in
     let y = c.execute.new.self in
     let rows = catalogue_of (g.R.Replicas.catalogues s.replicas) j in
@@ -67,7 +64,7 @@ invariant_of-self-else-all_executed g c =
     let s = c.args.self.now in
     let items = vec_items s.unfinished in
     let i = c.args.i in
-    let j = c.args.replica in
+    let j = c.args.replica.number in
     let x = c.index_mut.result.now in
     let y = c.execute.new.self in
     let rows = catalogue_of (g.R.Replicas.catalogues s.replicas) j in
@@ -88,7 +85,7 @@ returns-then-all_executed g c =
     let s = c.args.self.now in
     let items = vec_items s.unfinished in
     let i = c.args.i in
-    let j = c.args.replica in
+    let j = c.args.replica.number in
     let x = c.index_mut.result.now in
     let y = c.execute.new.self in
     let cs = g.R.Replicas.catalogues s.replicas in
@@ -113,7 +110,7 @@ returns-else-all_executed g c =
     let s = c.args.self.now in
     let items = vec_items s.unfinished in
     let i = c.args.i in
-    let j = c.args.replica in
+    let j = c.args.replica.number in
     let x = c.index_mut.result.now in
     let y = c.execute.new.self in
     let cs = g.R.Replicas.catalogues s.replicas in

@@ -10,7 +10,7 @@ use Rattle.cluster.proofs.cluster.Cluster.load.Goals as goal
 pub loop-transaction-preserved : goal.loop-transaction-preserved
 loop-transaction-preserved g c =
     let items = vec_items c.args.self.now.unfinished in
-    let j = c.args.replica in
+    let j = c.args.replica.number in
     let i = c.loop-transaction.transaction-index in
     let x = c.transaction-item.result in
     let same = c.deref-transaction-items.ensures.value in
@@ -24,7 +24,7 @@ loop-transaction-preserved g c =
 pub returns : goal.returns
 returns g c =
     let items = vec_items c.args.self.now.unfinished in
-    let j = c.args.replica in
+    let j = c.args.replica.number in
     let i = c.loop-transaction.transaction-index in
     c.loop-transaction.invariant.0
     ∙ ap (sum_by (λ (u : Unfinished). cost_left u j)) (take_all i (transactions_of items) (omega (arith, many items, ap length c.deref-transaction-items.ensures.value)))

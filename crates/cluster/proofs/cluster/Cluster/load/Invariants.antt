@@ -5,4 +5,4 @@ use Rattle.cluster.proofs.cluster.Cluster.load.Given as goal
 
 abbrev pub invariant-loop-transaction : goal.invariant-loop-transaction
 invariant-loop-transaction g l =
-    (l.total ≡ sum_by (λ x. cost_left x l.replica) (take l.transaction-index (transactions_of (vec_items l.self.unfinished)))) × (l.total ≤ 850 * l.transaction-index)
+    (l.total ≡ sum_by (λ x. cost_left x l.replica.number) (take l.transaction-index (transactions_of (vec_items l.self.unfinished)))) × (l.total ≤ 850 * l.transaction-index)

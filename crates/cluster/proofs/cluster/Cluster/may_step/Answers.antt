@@ -1,4 +1,4 @@
-use Rattle.std.proofs.Common.{◌<◌, length, vec_items, arith}
+use Rattle.std.proofs.Common.{◌<◌, length, vec_items, refl, arith}
 use Rattle.std.proofs.lemmas.Result.{err_from_is_err_and}
 use Rattle.sequencing.specs.Sequencer.{counts_of}
 use Rattle.cluster.proofs.Checked.{step_refused, steps_at}
@@ -11,8 +11,8 @@ index-requires g c =
     let v = c.args.self.now.unfinished in
     omega (arith, c.in-Some.ensures.within, many (vec_items v), v.ok.0)
 
-pub may_execute-requires : goal.may_execute-requires
-may_execute-requires g c =
+pub invariant_of-replica : goal.invariant_of-replica
+invariant_of-replica g c =
     let s = c.args.self.now in
     omega (arith, c.replica_count.ensures, paired_length (g.R.Replicas.catalogues s.replicas) s.versions, (g.R.Replicas.whole s.replicas).few)
 
@@ -29,4 +29,4 @@ returns g c =
     let s = c.args.self.now in
     let there : c.args.replica < length (g.R.Replicas.catalogues s.replicas) = omega (arith, c.replica_count.ensures, paired_length (g.R.Replicas.catalogues s.replicas) s.versions) in
     let begun : c.args.number < (counts_of s.sequencer).begun = omega (arith, c.begun.ensures) in
-    steps_at g.R.Replicas.catalogues s c.args.number c.args.replica c.in-Some.i c.index.result.now there begun c.in-Some.ensures c.index.ensures c.in_ok-may_execute.ensures
+    (refl, steps_at g.R.Replicas.catalogues s c.args.number c.args.replica c.in-Some.i c.index.result.now there begun c.in-Some.ensures c.index.ensures c.in_ok-may_execute.ensures)

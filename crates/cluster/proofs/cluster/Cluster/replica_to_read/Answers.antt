@@ -1,11 +1,12 @@
-use Rattle.std.proofs.Common.{◌≡◌, ℕ, ◌<◌, Result, Err, vec_items, sym, ap, ◌∙◌, subst, arith}
+use Rattle.std.proofs.Common.{◌≡◌, ◌<◌, Result, Err, vec_items, ap, ◌∙◌, arith}
 use Rattle.std.proofs.lemmas.Result.{err_from_is_err_and}
 use Rattle.catalogue.specs.declared.refusal.Refusal.{Refusal}
-use Rattle.catalogue.specs.Refusals.{told}
+use Rattle.catalogue.specs.Refusals.{told_as}
 use Rattle.sequencing.specs.Sequencer.{counts_of}
-use Rattle.versioning.specs.Machine.{and_then, read_reply}
-use Rattle.cluster.specs.View.{state_of, fetched}
-use Rattle.cluster.proofs.Reading.{read_refused, read_unqualified, read_chosen}
+use Rattle.versioning.specs.Machine.{and_then}
+use Rattle.cluster.specs.declared.replica_index.ReplicaIndex.{ReplicaIndex}
+use Rattle.cluster.specs.View.{fetched}
+use Rattle.cluster.proofs.Reading.{read_refused, read_answered}
 use Rattle.cluster.proofs.Standing.{many}
 use Rattle.cluster.proofs.cluster.Cluster.replica_to_read.Goals as goal
 
@@ -20,17 +21,12 @@ returns-in_err-may_read g c =
     let begun : c.args.number < (counts_of s.sequencer).begun = omega (arith, c.begun.ensures) in
     let p = err_from_is_err_and c.from_residual.result c.from_residual.ensures.1 in
     let same : c.from_residual.result ≡ Err c.in_err-may_read.field-0.0 = p.1 ∙ ap Err p.2 in
-    subst (λ (r : Result ℕ Refusal). and_then (told r) (fetched (g.R.Replicas.catalogues s.replicas) c.args.table c.args.row) ≡ read_reply (state_of g.R.Replicas.catalogues s) c.args.number c.args.table c.args.row) (sym same)
-    (read_refused g.R.Replicas.catalogues s c.args.number c.in-Some.i c.args.table c.args.row c.index-transaction.result.now begun c.in-Some.ensures c.index-transaction.ensures _ c.in_err-may_read.ensures)
+    ap (λ (r : Result ReplicaIndex Refusal). and_then (told_as (λ j. j.number) r) (fetched (g.R.Replicas.catalogues s.replicas) c.args.table c.args.row)) same
+    ∙ (read_refused g.R.Replicas.catalogues s c.args.number c.in-Some.i c.args.table c.args.row c.index-transaction.result.now begun c.in-Some.ensures c.index-transaction.ensures _ c.in_err-may_read.ensures)
 
-pub returns-in-Some-choose : goal.returns-in-Some-choose
-returns-in-Some-choose g c =
+pub returns : goal.returns
+returns g c =
     let s = c.args.self.now in
     let begun : c.args.number < (counts_of s.sequencer).begun = omega (arith, c.begun.ensures) in
-    read_chosen g.R.Replicas.catalogues s c.args.number c.in-Some.i c.args.table c.args.row c.index-transaction.result.now begun c.in-Some.ensures c.index-transaction.ensures c.in_ok-may_read.ensures c.in-Some-choose.replica c.in-Some-choose.ensures
-
-pub returns-in-None : goal.returns-in-None
-returns-in-None g c =
-    let s = c.args.self.now in
-    let begun : c.args.number < (counts_of s.sequencer).begun = omega (arith, c.begun.ensures) in
-    read_unqualified g.R.Replicas.catalogues s c.args.number c.in-Some.i c.args.table c.args.row c.index-transaction.result.now begun c.in-Some.ensures c.index-transaction.ensures c.in_ok-may_read.ensures c.in-None.ensures
+    ap (λ (r : Result ReplicaIndex Refusal). and_then (told_as (λ j. j.number) r) (fetched (g.R.Replicas.catalogues s.replicas) c.args.table c.args.row)) c.ok_or.ensures.value
+    ∙ (read_answered g.R.Replicas.catalogues s c.args.number c.in-Some.i c.args.table c.args.row c.index-transaction.result.now begun c.in-Some.ensures c.index-transaction.ensures c.in_ok-may_read.ensures c.choose.result c.choose.ensures)

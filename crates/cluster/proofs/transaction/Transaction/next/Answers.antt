@@ -1,12 +1,12 @@
-use Rattle.std.proofs.Common.{sym, ◌∙◌}
-use Rattle.cluster.proofs.Waiting.{waits_below, next_is}
+use Rattle.std.proofs.Common.{ap, get_or, ◌∙◌, arith}
+use Rattle.versioning.specs.declared.operation.Operation.{Operation}
+use Rattle.cluster.proofs.Waiting.{waits_below}
 use Rattle.cluster.proofs.transaction.Transaction.next.Goals as goal
 
 pub asked_at-requires : goal.asked_at-requires
-asked_at-requires c = waits_below c.args.self.now c.args.replica c.requires.1
+asked_at-requires c = omega (arith, c.executed.ensures.is, waits_below c.args.self.now c.args.replica.number c.requires)
 
 pub returns : goal.returns
 returns c =
-    let x = c.args.self.now in
-    let j = c.args.replica in
-    record { is = c.asked_at.ensures.is ∙ sym (next_is x j (waits_below x j c.requires.1)); range = c.asked_at.ensures.range }
+    let is = ap (λ n. get_or c.args.self.now.asked.items n Operation.Commit) c.executed.ensures.is in
+    record { is = c.asked_at.ensures.is ∙ is; range = c.asked_at.ensures.range }
