@@ -1,4 +1,4 @@
--- What a fetch and a put come to at a table and a row number that no check refuses, and at a table that is refused.
+-- What a fetch and a put come to at a table and a row number that no check refuses, and at one that is refused.
 use Rattle.std.proofs.Common.{◌≡◌, ℕ, ◌<◌, ◌≤◌, Bool, true, cond, not, eqb, ltb, List, get_or, set, Some, ap, ◌∙◌}
 use Rattle.std.proofs.lemmas.Bool.{lt-ltb, le-ltb}
 use Rattle.catalogue.specs.declared.row.Row.{Row}
@@ -15,6 +15,9 @@ module _ (t r : ℕ) where
 
   pub no_table : 8 ≤ t → first (place_checks t r) ≡ 1
   no_table h = ap (λ (b : Bool). checked b (ltb r 64)) (le-ltb t 8 h)
+
+  pub no_row : t < 8 → 64 ≤ r → first (place_checks t r) ≡ 8
+  no_row h k = ap (λ (b : Bool). checked b (ltb r 64)) (lt-ltb t 8 h) ∙ ap (λ (b : Bool). checked true b) (le-ltb r 64 k)
 
   pub fetched_in : (rows : List Row) → t < 8 → r < 64 → fetch_reply rows t r ≡ (0, Some (get_or rows (place t r) blank))
   fetched_in rows h k = ap (λ n. unless_refused n (get_or rows (place t r) blank)) (passes h k)
@@ -33,3 +36,7 @@ module _ (t r : ℕ) where
     pub put_nowhere : 8 ≤ t → put_after rows t r v ≡ rows
     unfolding after
     put_nowhere h = ap after (no_table h)
+
+    pub put_past_row : t < 8 → 64 ≤ r → put_after rows t r v ≡ rows
+    unfolding after
+    put_past_row h k = ap after (no_row h k)

@@ -19,6 +19,10 @@ pub record Placed (t r place : ℕ) : Type 0 where
   pub is : place ≡ t * 64 + r
   pub within : place < 512
 
+-- A table above 7 is refused.
+abbrev pub table_reply : ℕ → ℕ × Option ℕ
+table_reply t = unless_refused (first ((not (nat_lt t 8), Refusal.TableOutOfRange) ∷ [])) t
+
 -- A table above 7 is refused, then a row number above 63.
 abbrev pub place_checks : ℕ → ℕ → List (Bool × Refusal)
 place_checks t r = (not (nat_lt t 8), Refusal.TableOutOfRange) ∷ (not (nat_lt r 64), Refusal.RowOutOfRange) ∷ []

@@ -34,8 +34,5 @@ pub trait Kind: Sized {
 pub fn read_as<K: Kind>(row: Row) -> Result<K, Refusal>
     ensures { told result ≡ value_reply (K.Kind.unpacked row) }
 {
-    let Some(value) = K::unpack(row) else {
-        return Err(Refusal::NoValue);
-    };
-    Ok(value)
+    K::unpack(row).ok_or(Refusal::NoValue)
 }

@@ -6,3 +6,4 @@ pub mod refusal;
 pub mod replicas;
 pub mod row;
 pub mod store;
+pub mod table;

@@ -1,10 +1,8 @@
-ghost use Rattle.std.specs.Prelude.{◌≡◌, ◌==◌};
+ghost use Rattle.std.specs.Prelude.{◌≡◌};
 ghost use Rattle.catalogue.specs.Refusals.{number as number_of};
-ghost use Rattle.std.specs.Cmp.Rules.{comparing};
-ghost use Rattle.std.proofs.Common.{rules};
 
 // Why a call was refused. Each has one number, from 1; docs/REFUSALS.md gives the condition of each.
-#[derive(Clone, Copy, Debug)]
+#[derive(Clone, Copy, PartialEq, Eq, Debug)]
 pub enum Refusal {
     TableOutOfRange = 1,
     TableRepeated = 2,
@@ -38,16 +36,5 @@ impl Refusal {
         ensures { result ≡ number_of self }
     {
         self as u8
-    }
-}
-
-// By their numbers, by which callers tell refusals apart.
-impl PartialEq for Refusal {
-    ghost eq = { λ a b. (number_of a == number_of b) };
-
-    ghost laws = { Prim.search (comparing, rules) };
-
-    fn eq(&self, other: &Refusal) -> bool {
-        self.number() == other.number()
     }
 }

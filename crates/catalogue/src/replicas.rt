@@ -33,6 +33,7 @@ pub trait Replicas {
         ensures kept { lents self.new ≡ lents self.old };
 }
 
+// One impl for each size: no impl is over tuples of every size, and a nest of pairs is not the tuple that a caller has.
 impl<A: Store> Replicas for (A,) {
     ghost catalogues = { λ s. A.Store.rows s.0 ∷ [] };
 

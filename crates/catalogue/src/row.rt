@@ -1,8 +1,9 @@
-ghost use Rattle.std.specs.Prelude.{◌≡◌, IfOk};
-ghost use Rattle.catalogue.specs.Refusals.{told};
+ghost use Rattle.std.specs.Prelude.{◌≡◌, ◌<◌, IfOk};
+ghost use Rattle.catalogue.specs.Refusals.{told_as};
 ghost use Rattle.catalogue.specs.Rows.{Placed, place_reply};
 
 use crate::refusal::Refusal;
+use crate::table::Table;
 
 pub const TABLES: u32 = 8;
 
@@ -14,16 +15,40 @@ pub struct Row {
     pub low: u64,
 }
 
-// Where the row of the table stands among the 512.
-pub fn place_of(table: u32, row: u32) -> Result<u32, Refusal>
-    ensures answer { told result ≡ place_reply table row }
-    ensures found { IfOk result (λ place. Placed table row place) }
-{
-    if table >= TABLES {
-        return Err(Refusal::TableOutOfRange);
+// One of the 512 places of a catalogue.
+#[derive(Clone, Copy, PartialEq, Eq, Debug)]
+pub struct Place {
+    index: u32,
+    pub ghost within: { index < 512 },
+}
+
+impl Place {
+    pub fn index(self) -> usize
+        ensures { result ≡ self.index }
+    {
+        self.index as usize
     }
+}
+
+// The first place.
+impl Default for Place {
+    fn default() -> Place
+        ensures { result.index ≡ 0 }
+    {
+        Place { index: 0 }
+    }
+}
+
+// Where the row of the table stands among the 512.
+pub fn place_of(table: u32, row: u32) -> Result<Place, Refusal>
+    ensures answer { told_as (λ place. place.index) result ≡ place_reply table row }
+    ensures found { IfOk result (λ place. Placed table row place.index) }
+{
+    let table = Table::new(table)?;
     if row >= ROWS {
         return Err(Refusal::RowOutOfRange);
     }
-    Ok(table * ROWS + row)
+    Ok(Place {
+        index: table.number() * ROWS + row,
+    })
 }

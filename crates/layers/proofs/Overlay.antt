@@ -4,10 +4,10 @@ use Rattle.std.proofs.lemmas.List.FromFn.{get_or-map-range_with_len}
 use Rattle.std.proofs.lemmas.List.{ext_get_or, get_or-set_same, get_or-set_other, get_or-replicate, set_past}
 use Rattle.std.proofs.lemmas.Bool.{cases_eq, cases_lt, eq-eqb, ne_eqb}
 use Rattle.catalogue.specs.declared.row.Row.{Row}
-use Rattle.catalogue.specs.Rows.{blank, place as place_of, Placed, fetch_reply, put_after}
+use Rattle.catalogue.specs.Rows.{blank, place as place_of, Placed, fetch_reply}
 use Rattle.catalogue.proofs.Placed.{fetched_in, put_in, put_nowhere}
 use Rattle.layers.specs.declared.cache.Line.{Line}
-use Rattle.layers.specs.Lines.{row_of, line_of, cached, empty_lines, overlaid_row, overlaid, overlaid_full, evicted}
+use Rattle.layers.specs.Lines.{row_of, line_of, cached, empty_lines, overlaid_row, overlaid, overlaid_full, written_back, evicted}
 
 pub overlaid_at : (lines : List (Option Line)) (rows : List Row) (place : ℕ) → place < 512 → get_or (overlaid lines rows) place blank ≡ overlaid_row lines rows place
 unfolding overlaid
@@ -93,18 +93,14 @@ module _ (lines : List (Option Line)) (rows rows' : List Row) (place : ℕ) (v :
           ∙ sym (get_or-set_other (overlaid lines rows) place q v blank ne ∙ overlaid_at lines rows q lt))
           (cases_eq q place)
 
--- a line that makes room for a place
-module _ (below : List Row) (full : length below ≡ 512) (place : ℕ) where
+-- line k, once it has gone below
+module _ (below : List Row) (full : length below ≡ 512) (k : ℕ) (line : k < 16) where
   abbrev old : Line → ℕ
-  old l = l.tag * 16 + place % 16
+  old l = l.tag * 16 + k
 
-  stays : (l : Line) → l.tag ≡ place / 16 → evicted (Some l) place below ≡ below
-  stays l own = ap (λ (b : Bool). cond b below (put_after below (old l / 64) (old l % 64) l.row)) (eq-eqb _ _ own)
-
-  goes : (l : Line) → l.tag ≢ place / 16 → evicted (Some l) place below ≡ set below (old l) l.row
-  goes l apart =
-      ap (λ (b : Bool). cond b below (put_after below (old l / 64) (old l % 64) l.row)) (ne_eqb _ _ apart)
-      ∙ ⊎_elim
+  goes : (l : Line) → written_back k (Some l) below ≡ set below (old l) l.row
+  goes l =
+      ⊎_elim
       (λ (small : old l < 512).
       let back : place_of (old l / 64) (old l % 64) ≡ old l = omega arith in
       put_in (old l / 64) (old l % 64) below l.row (omega arith) (omega arith) ∙ ap (λ k. set below k l.row) back)
@@ -113,26 +109,17 @@ module _ (below : List Row) (full : length below ≡ 512) (place : ℕ) where
       (cases_lt (old l) 512)
 
   -- the places of other lines are as they were
-  pub evicted_elsewhere : (l : Option Line) (q : ℕ) → q % 16 ≢ place % 16 → get_or (evicted l place below) q blank ≡ get_or below q blank
-  evicted_elsewhere None q line = refl
-  evicted_elsewhere (Some l) q line =
-      ⊎_elim
-      (λ (own : l.tag ≡ place / 16). ap (λ (r : List Row). get_or r q blank) (stays l own))
-      (λ (apart : l.tag ≢ place / 16).
-      let off : q ≢ old l = λ (z : q ≡ old l). line (omega arith) in
-      ap (λ (r : List Row). get_or r q blank) (goes l apart) ∙ get_or-set_other below (old l) q l.row blank off)
-      (cases_eq l.tag (place / 16))
+  pub written_elsewhere : (l : Option Line) (q : ℕ) → q % 16 ≢ k → get_or (written_back k l below) q blank ≡ get_or below q blank
+  written_elsewhere None q other = refl
+  written_elsewhere (Some l) q other =
+      let off : q ≢ old l = λ (z : q ≡ old l). other (omega arith) in
+      ap (λ (r : List Row). get_or r q blank) (goes l) ∙ get_or-set_other below (old l) q l.row blank off
 
   -- those of this line are as they were shown
-  pub evicted_there : (l : Option Line) (q : ℕ) → q < 512 → q % 16 ≡ place % 16 → q ≢ place → get_or (evicted l place below) q blank ≡ unwrap_or (row_of l q) (get_or below q blank)
-  evicted_there None q lt line ne = refl
-  evicted_there (Some l) q lt line ne =
-      ⊎_elim
-      (λ (own : l.tag ≡ place / 16).
-      let far : l.tag ≢ q / 16 = λ (z : l.tag ≡ q / 16). ne (omega arith) in
-      ap (λ (r : List Row). get_or r q blank) (stays l own) ∙ shows_below far)
-      (λ (apart : l.tag ≢ place / 16).
-      ap (λ (r : List Row). get_or r q blank) (goes l apart)
+  pub written_there : (l : Option Line) (q : ℕ) → q < 512 → q % 16 ≡ k → get_or (written_back k l below) q blank ≡ unwrap_or (row_of l q) (get_or below q blank)
+  written_there None q lt mine = refl
+  written_there (Some l) q lt mine =
+      ap (λ (r : List Row). get_or r q blank) (goes l)
       ∙ ⊎_elim
       (λ (z : q ≡ old l).
       let own : l.tag ≡ q / 16 = omega arith in
@@ -141,12 +128,40 @@ module _ (below : List Row) (full : length below ≡ 512) (place : ℕ) where
       ∙ sym (ap (λ (o : Option Row). unwrap_or o (get_or below q blank)) (row_of_own l q own)))
       (λ (off : q ≢ old l).
       let far : l.tag ≢ q / 16 = λ (z : l.tag ≡ q / 16). off (omega arith) in
-      get_or-set_other below (old l) q l.row blank off ∙ shows_below far)
-      (cases_eq q (old l)))
+      get_or-set_other below (old l) q l.row blank off
+      ∙ sym (ap (λ (o : Option Row). unwrap_or o (get_or below q blank)) (row_of_other l q far)))
+      (cases_eq q (old l))
+
+-- a line that makes room for a place
+module _ (below : List Row) (full : length below ≡ 512) (place : ℕ) where
+  stays : (l : Line) → l.tag ≡ place / 16 → evicted (Some l) place below ≡ below
+  stays l own = ap (λ (b : Bool). cond b below (written_back (place % 16) (Some l) below)) (eq-eqb _ _ own)
+
+  leaves : (l : Line) → l.tag ≢ place / 16 → evicted (Some l) place below ≡ written_back (place % 16) (Some l) below
+  leaves l apart = ap (λ (b : Bool). cond b below (written_back (place % 16) (Some l) below)) (ne_eqb _ _ apart)
+
+  -- the places of other lines are as they were
+  pub evicted_elsewhere : (l : Option Line) (q : ℕ) → q % 16 ≢ place % 16 → get_or (evicted l place below) q blank ≡ get_or below q blank
+  evicted_elsewhere None q other = refl
+  evicted_elsewhere (Some l) q other =
+      ⊎_elim
+      (λ (own : l.tag ≡ place / 16). ap (λ (r : List Row). get_or r q blank) (stays l own))
+      (λ (apart : l.tag ≢ place / 16).
+      ap (λ (r : List Row). get_or r q blank) (leaves l apart) ∙ written_elsewhere below full (place % 16) (omega arith) (Some l) q other)
       (cases_eq l.tag (place / 16))
-    where
-      shows_below : l.tag ≢ q / 16 → get_or below q blank ≡ unwrap_or (row_of (Some l) q) (get_or below q blank)
-      shows_below far = sym (ap (λ (o : Option Row). unwrap_or o (get_or below q blank)) (row_of_other l q far))
+
+  -- those of this line are as they were shown
+  pub evicted_there : (l : Option Line) (q : ℕ) → q < 512 → q % 16 ≡ place % 16 → q ≢ place → get_or (evicted l place below) q blank ≡ unwrap_or (row_of l q) (get_or below q blank)
+  evicted_there None q lt mine ne = refl
+  evicted_there (Some l) q lt mine ne =
+      ⊎_elim
+      (λ (own : l.tag ≡ place / 16).
+      let far : l.tag ≢ q / 16 = λ (z : l.tag ≡ q / 16). ne (omega arith) in
+      ap (λ (r : List Row). get_or r q blank) (stays l own)
+      ∙ sym (ap (λ (o : Option Row). unwrap_or o (get_or below q blank)) (row_of_other l q far)))
+      (λ (apart : l.tag ≢ place / 16).
+      ap (λ (r : List Row). get_or r q blank) (leaves l apart) ∙ written_there below full (place % 16) (omega arith) (Some l) q lt mine)
+      (cases_eq l.tag (place / 16))
 
 -- a put into a line that has first made room
 pub overlay_evicted : (lines : List (Option Line)) (rows : List Row) (place : ℕ) (v : Row) → place < 512 → length lines ≡ 16 → length rows ≡ 512 → overlaid (set lines (place % 16) (Some (record { tag = place / 16; row = v }))) (evicted (line_of lines place) place rows) ≡ set (overlaid lines rows) place v
@@ -163,18 +178,14 @@ flushed_none lines rows = record { shown = λ q _ l. absurd (not-suc-le-zero l);
 
 module _ (lines : List (Option Line)) (rows below : List Row) (k : ℕ) (line : k < 16) (full : length below ≡ 512) (so_far : Flushed lines rows below k) where
   abbrev after : List Row
-  after = evicted (get_or lines k None) (512 + k) below
+  after = written_back k (get_or lines k None) below
 
   elsewhere : (q : ℕ) → q % 16 ≢ k → get_or after q blank ≡ get_or below q blank
-  elsewhere q ne =
-      let off : q % 16 ≢ (512 + k) % 16 = λ (z : q % 16 ≡ (512 + k) % 16). ne (omega arith) in
-      evicted_elsewhere below full (512 + k) (get_or lines k None) q off
+  elsewhere q ne = written_elsewhere below full k line (get_or lines k None) q ne
 
   here : (q : ℕ) → q < 512 → q % 16 ≡ k → get_or after q blank ≡ overlaid_row lines rows q
   here q lt e =
-      let same : q % 16 ≡ (512 + k) % 16 = omega arith in
-      let off : q ≢ 512 + k = omega arith in
-      evicted_there below full (512 + k) (get_or lines k None) q lt same off
+      written_there below full k line (get_or lines k None) q lt e
       ∙ ap (λ (r : Row). unwrap_or (row_of (get_or lines k None) q) r) (so_far.kept q lt (omega arith))
       ∙ ap (λ n. unwrap_or (row_of (get_or lines n None) q) (get_or rows q blank)) (sym e)
 

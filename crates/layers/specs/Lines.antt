@@ -33,9 +33,12 @@ pub overlaid_full : (lines : List (Option Line)) (rows : List Row) → length (o
 unfolding overlaid
 overlaid_full lines rows = length-map-range_with_len (overlaid_row lines rows) 0 512
 
+-- The rows below once line k has gone there.
+abbrev pub written_back : ℕ → Option Line → List Row → List Row
+written_back k None rows = rows
+written_back k (Some l) rows = let place = l.tag * 16 + k in put_after rows (place / 64) (place % 64) l.row
+
 -- The rows below once a line has made room for a place: the line's row is put below if it is another place's.
 abbrev pub evicted : Option Line → ℕ → List Row → List Row
 evicted None place rows = rows
-evicted (Some l) place rows =
-    let old = l.tag * 16 + place % 16 in
-    cond (l.tag == place / 16) rows (put_after rows (old / 64) (old % 64) l.row)
+evicted (Some l) place rows = cond (l.tag == place / 16) rows (written_back (place % 16) (Some l) rows)

@@ -1,6 +1,6 @@
 -- Eight numbers that rename the tables.
-use Rattle.std.specs.Prelude.{◌≡◌, ℕ, zero, suc, ◌+◌, ◌/◌, ◌%◌, Bool, true, cond, not, ◌&&◌, List, [], ◌∷◌, map, length, Option, ◌==◌, nat_lt, slice_index, slice_index_or}
-use Rattle.std.specs.List.{range_with_len}
+use Rattle.std.specs.Prelude.{◌≡◌, ℕ, ◌/◌, ◌%◌, Bool, not, ◌&&◌, List, [], ◌∷◌, map, length, Option, ◌==◌, nat_lt, slice_index, slice_index_or, count_by}
+use Rattle.std.specs.List.{list_all, range_with_len}
 use Rattle.std.proofs.lemmas.List.FromFn.{length-map-range_with_len}
 use Rattle.catalogue.specs.declared.refusal.Refusal.{Refusal}
 use Rattle.catalogue.specs.declared.row.Row.{Row}
@@ -9,20 +9,14 @@ use Rattle.catalogue.specs.Rows.{blank, place}
 
 -- How often n stands in a list.
 abbrev pub count : ℕ → List ℕ → ℕ
-count n [] = 0
-count n (x ∷ xs) = cond (x == n) (count n xs + 1) (count n xs)
-
--- Each number below n passes.
-abbrev pub all_below : ℕ → (ℕ → Bool) → Bool
-all_below zero p = true
-all_below (suc n) p = all_below n p && p n
+count n numbers = count_by (λ number. number == n) numbers
 
 -- Each of the eight is below 8, and each of 0 to 7 stands just once.
 abbrev pub in_order : List ℕ → ℕ → Bool
 in_order numbers t = nat_lt (slice_index numbers t) 8 && count t numbers == 1
 
 abbrev pub permutation : List ℕ → Bool
-permutation numbers = all_below 8 (in_order numbers)
+permutation numbers = list_all (in_order numbers) (range_with_len 0 8)
 
 -- Other numbers are refused.
 abbrev pub numbers_reply : List ℕ → ℕ × Option (List ℕ)

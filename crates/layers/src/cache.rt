@@ -1,11 +1,11 @@
-ghost use Rattle.std.specs.Prelude.{◌≡◌, ◌<◌, None};
-ghost use Rattle.layers.specs.Lines.{cached, evicted, empty_lines, overlaid, overlaid_full};
+ghost use Rattle.std.specs.Prelude.{◌≡◌, ◌<◌, ◌/◌, ◌==◌, None};
+ghost use Rattle.layers.specs.Lines.{cached, written_back, evicted, empty_lines, overlaid, overlaid_full};
 
 use catalogue::refusal::Refusal;
-use catalogue::row::{Row, place_of};
+use catalogue::row::{Place, ROWS, Row, place_of};
 use catalogue::store::Store;
 
-const LINES: u32 = 16;
+const LINES: usize = 16;
 
 // In line k, the row of the place 16 × tag + k.
 #[derive(Clone, Copy)]
@@ -21,30 +21,47 @@ pub struct Cache<S> {
     lines: [Option<Line>; 16],
 }
 
+impl Line {
+    // Whether the row is that of the place, which belongs to this line.
+    fn has(self, place: Place) -> bool
+        ensures { result ≡ (self.tag == place.index / 16) }
+    {
+        usize::from(self.tag) == place.index() / LINES
+    }
+}
+
 // The row of the place, where its line has it.
-fn row_in(lines: &[Option<Line>; 16], place: u32) -> Option<Row>
-    ensures { result ≡ cached lines.now place }
+fn row_in(lines: &[Option<Line>; 16], place: Place) -> Option<Row>
+    ensures { result ≡ cached lines.now place.index }
 {
-    let line = lines[(place % LINES) as usize];
+    let line = lines[place.index() % LINES];
     match line {
-        Some(line) if u32::from(line.tag) == place / LINES => Some(line.row),
+        Some(line) if line.has(place) => Some(line.row),
         _ => None,
     }
 }
 
-// The line goes below, unless it is empty or has the row of the place itself.
-fn evict<S: Store>(below: &mut S, line: Option<Line>, place: u32)
-    ensures rows { S.Store.rows below.new ≡ evicted line place (S.Store.rows below.old) }
+// Line k goes below, unless it is empty.
+fn write_back<S: Store>(below: &mut S, k: usize, line: Option<Line>)
+    requires { k < 16 }
+    ensures rows { S.Store.rows below.new ≡ written_back k line (S.Store.rows below.old) }
     ensures kept { S.Store.lent below.new ≡ S.Store.lent below.old }
 {
-    let Some(line) = line else {
-        return;
-    };
-    let tag = u32::from(line.tag);
-    if tag != place / LINES {
-        let old = tag * LINES + place % LINES;
+    if let Some(line) = line {
+        let place = (usize::from(line.tag) * LINES + k) as u32;
         // A tag above 31 has no place, and is refused below.
-        let _ = below.put(old / 64, old % 64, line.row);
+        let _ = below.put(place / ROWS, place % ROWS, line.row);
+    }
+}
+
+// The line of the place goes below, unless it has the row of the place itself.
+fn evict<S: Store>(below: &mut S, line: Option<Line>, place: Place)
+    ensures rows { S.Store.rows below.new ≡ evicted line place.index (S.Store.rows below.old) }
+    ensures kept { S.Store.lent below.new ≡ S.Store.lent below.old }
+{
+    match line {
+        Some(line) if line.has(place) => {}
+        _ => write_back(below, place.index() % LINES, line),
     }
 }
 
@@ -66,9 +83,8 @@ impl<S: Store> Cache<S> {
         ensures lent { S.Store.lent result ≡ S.Store.lent self.below }
     {
         let Cache { mut below, lines } = self;
-        for k in 0..LINES {
-            // No line has a row of a place past the last, so each goes below.
-            evict(&mut below, lines[k as usize], 512 + k);
+        for (k, line) in lines.iter().enumerate() {
+            write_back(&mut below, k, *line);
         }
         below
     }
@@ -91,10 +107,11 @@ impl<S: Store> Store for Cache<S> {
 
     fn put(&mut self, table: u32, row: u32, value: Row) -> Result<(), Refusal> {
         let place = place_of(table, row)?;
-        let k = (place % LINES) as usize;
+        let index = place.index();
+        let k = index % LINES;
         evict(&mut self.below, self.lines[k], place);
         self.lines[k] = Some(Line {
-            tag: (place / LINES) as u8,
+            tag: (index / LINES) as u8,
             row: value,
         });
         Ok(())

@@ -3,8 +3,9 @@ ghost use Rattle.layers.specs.Numbers.{renumbered, renumbered_full};
 
 use crate::numbers::Numbers;
 use catalogue::refusal::Refusal;
-use catalogue::row::{Row, place_of};
+use catalogue::row::Row;
 use catalogue::store::Store;
+use catalogue::table::Table;
 
 // A store over another that has the tables under other numbers.
 #[derive(Drop)]
@@ -36,12 +37,12 @@ impl<'n, S: Store> Store for Renumbering<'n, S> {
     ghost lent = { λ s. S.Store.lent s.below };
 
     fn fetch(&mut self, table: u32, row: u32) -> Result<Row, Refusal> {
-        let _place = place_of(table, row)?;
+        let table = Table::new(table)?;
         self.below.fetch(self.numbers.of(table), row)
     }
 
     fn put(&mut self, table: u32, row: u32, value: Row) -> Result<(), Refusal> {
-        let _place = place_of(table, row)?;
+        let table = Table::new(table)?;
         self.below.put(self.numbers.of(table), row, value)
     }
 }

@@ -1,116 +1,86 @@
-ghost use Rattle.std.specs.Prelude.{◌≡◌, ◌<◌, min, slice_index_or, slice_set};
+ghost use Rattle.std.specs.Prelude.{◌≡◌, slice_index_or, slice_set};
 ghost use Rattle.catalogue.specs.Rows.{blank};
 ghost use Rattle.stores.specs.Held.{image, image_full, beyond, lent_by};
-ghost use Rattle.stores.specs.Changes.{no_change, laid_full, noted};
+ghost use Rattle.stores.specs.Changes.{noted, noted_full, latest as latest_of};
 
 use crate::memory::Memory;
-use crate::memory::access::{read_row, write_row};
+use arrayvec::ArrayVec;
 use catalogue::refusal::Refusal;
-use catalogue::row::{Row, place_of};
+use catalogue::row::{Place, Row, place_of};
 use catalogue::store::Store;
 
 const MOST_CHANGES: usize = 32;
 
 // A row that was put at a place.
-#[derive(Clone, Copy)]
+#[derive(Clone, Copy, Default)]
 pub struct Change {
-    place: u32,
+    place: Place,
     row: Row,
 }
 
-// The latest changes, the earliest first. A count above 32 is read as 32, so that every value is a list of changes.
-#[derive(Clone, Copy)]
-pub struct Changes {
-    list: [Change; 32],
-    count: usize,
-}
-
-// A store in lent memory, with the changes that are not yet written into it.
+// A store in lent memory, with the latest changes, the earliest first, which are not yet written into it.
 #[derive(Drop)]
 pub struct ChangeList<'a> {
     memory: &'a mut Memory,
-    changes: Changes,
-}
-
-impl Changes {
-    // The earliest stands at 0.
-    fn at(&self, i: usize) -> Change
-        requires { i < 32 }
-        ensures { result ≡ slice_index_or self.now.list i no_change }
-    {
-        self.list[i]
-    }
-}
-
-// A change of a place past the 512th, which no store makes, is none.
-fn write_change(memory: &mut Memory, change: Change)
-    ensures image { image memory.new ≡ slice_set (image memory.old) change.place change.row }
-    ensures beyond { beyond memory.new ≡ beyond memory.old }
-{
-    if change.place < 512 {
-        write_row(memory, change.place as usize, change.row);
-    }
+    changes: ArrayVec<Change, MOST_CHANGES>,
 }
 
 // Writes the changes into the memory, in their order.
-fn fold(memory: &mut Memory, changes: &Changes)
+#[tactic(auto, using(std::proofs::lemmas::List::Sums::fold_more))]
+fn fold(memory: &mut Memory, changes: &[Change])
     ensures image { image memory.new ≡ noted (image memory.old) changes.now }
     ensures beyond { beyond memory.new ≡ beyond memory.old }
 {
-    for i in 0..changes.count.min(MOST_CHANGES) {
-        write_change(memory, changes.at(i));
+    for change in changes {
+        memory.set_row(change.place, change.row);
     }
+}
+
+// The row that the latest change of the place puts there.
+fn latest(changes: &[Change], place: Place) -> Option<Row>
+    ensures { result ≡ latest_of changes.now place.index }
+{
+    changes
+        .iter()
+        .rev()
+        .find(|change| change.place == place)
+        .map(|change| change.row)
 }
 
 // The row at the place: that of its latest change, or the one in the memory.
-fn row_at(memory: &Memory, changes: &Changes, place: u32) -> Row
-    requires { place < 512 }
-    ensures { result ≡ slice_index_or (noted (image memory.now) changes.now) place blank }
+fn row_at(memory: &Memory, changes: &[Change], place: Place) -> Row
+    ensures { result ≡ slice_index_or (noted (image memory.now) changes.now) place.index blank }
 {
-    for i in (0..changes.count.min(MOST_CHANGES)).rev() {
-        let change = changes.at(i);
-        if change.place == place {
-            return change.row;
-        }
-    }
-    read_row(memory, place as usize)
+    latest(changes, place).unwrap_or_else(|| memory.row(place))
 }
 
 // One change more; a full list is written into the memory first.
-fn note(memory: &mut Memory, changes: &mut Changes, change: Change)
-    requires { change.place < 512 }
-    ensures rows { noted (image memory.new) changes.new ≡ slice_set (noted (image memory.old) changes.old) change.place change.row }
+#[tactic(auto, using(std::proofs::lemmas::List::Sums::fold_push))]
+fn note(memory: &mut Memory, changes: &mut ArrayVec<Change, MOST_CHANGES>, change: Change)
+    ensures rows { noted (image memory.new) changes.new.items ≡ slice_set (noted (image memory.old) changes.old.items) change.place.index change.row }
     ensures beyond { beyond memory.new ≡ beyond memory.old }
 {
-    if changes.count >= MOST_CHANGES {
+    if changes.is_full() {
         fold(memory, changes);
-        changes.count = 0;
+        changes.clear();
     }
-    changes.list[changes.count] = change;
-    changes.count += 1;
+    changes.push(change);
 }
 
 impl<'a> ChangeList<'a> {
     pub fn new(lent: &'a mut Memory) -> ChangeList<'a>
-        ensures rows { noted (image result.memory.now) result.changes ≡ image lent.old }
+        ensures rows { noted (image result.memory.now) result.changes.items ≡ image lent.old }
         ensures lent { lent_by result.memory ≡ lent_by lent.entry }
     {
-        let none = Change {
-            place: 0,
-            row: Row { high: 0, low: 0 },
-        };
         ChangeList {
             memory: lent,
-            changes: Changes {
-                list: [none; 32],
-                count: 0,
-            },
+            changes: ArrayVec::new(),
         }
     }
 
     // Writes the changes into the memory, and hands it back.
     pub fn into_memory(self) -> &'a mut Memory
-        ensures image { image result.now ≡ noted (image self.entry.memory.now) self.entry.changes }
+        ensures image { image result.now ≡ noted (image self.entry.memory.now) self.entry.changes.items }
         ensures lent { lent_by result ≡ lent_by self.entry.memory }
     {
         let ChangeList { memory, changes } = self;
@@ -120,9 +90,9 @@ impl<'a> ChangeList<'a> {
 }
 
 impl<'a> Store for ChangeList<'a> {
-    ghost rows = { λ s. noted (image s.memory.now) s.changes };
+    ghost rows = { λ s. noted (image s.memory.now) s.changes.items };
 
-    ghost full = { λ s. laid_full (image s.memory.now) s.changes.list (min s.changes.count 32) (image_full s.memory.now) };
+    ghost full = { λ s. noted_full (image s.memory.now) s.changes.items (image_full s.memory.now) };
 
     ghost lent = { λ s. lent_by s.memory };
 

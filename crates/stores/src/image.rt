@@ -2,7 +2,6 @@ ghost use Rattle.std.specs.Prelude.{◌≡◌};
 ghost use Rattle.stores.specs.Held.{image, image_full, lent_by};
 
 use crate::memory::Memory;
-use crate::memory::access::{read_row, write_row};
 use catalogue::refusal::Refusal;
 use catalogue::row::{Row, place_of};
 use catalogue::store::Store;
@@ -39,12 +38,12 @@ impl<'a> Store for Image<'a> {
 
     fn fetch(&mut self, table: u32, row: u32) -> Result<Row, Refusal> {
         let place = place_of(table, row)?;
-        Ok(read_row(self.memory, place as usize))
+        Ok(self.memory.row(place))
     }
 
     fn put(&mut self, table: u32, row: u32, value: Row) -> Result<(), Refusal> {
         let place = place_of(table, row)?;
-        write_row(self.memory, place as usize, value);
+        self.memory.set_row(place, value);
         Ok(())
     }
 }

@@ -28,10 +28,6 @@ impl Kind for Counter {
     }
 
     fn unpack(row: Row) -> Option<Counter> {
-        if row.high == 0 {
-            Some(Counter(row.low))
-        } else {
-            None
-        }
+        (row.high == 0).then_some(Counter(row.low))
     }
 }

@@ -41,15 +41,13 @@ impl Kind for Tape {
     }
 
     fn unpack(row: Row) -> Option<Tape> {
-        match row.high {
-            0 if row.low == 0 => Some(Tape::Blank),
-            1 => Some(Tape::Holding {
-                job: (row.low / JOB) as u32,
-                since: (row.low % JOB) as u32,
+        match (row.high, row.low) {
+            (0, 0) => Some(Tape::Blank),
+            (1, low) => Some(Tape::Holding {
+                job: (low / JOB) as u32,
+                since: (low % JOB) as u32,
             }),
-            2 if row.low < JOB => Some(Tape::Reusable {
-                from: row.low as u32,
-            }),
+            (2, from) if from < JOB => Some(Tape::Reusable { from: from as u32 }),
             _ => None,
         }
     }

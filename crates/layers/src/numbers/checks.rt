@@ -1,39 +1,28 @@
-ghost use Rattle.std.specs.Prelude.{◌≡◌, ◌<◌, slice_index};
+ghost use Rattle.std.specs.Prelude.{◌≡◌, slice_index};
 ghost use Rattle.catalogue.specs.Refusals.{told_as};
 ghost use Rattle.layers.specs.Numbers.{count, in_order as in_order_of, permutation, numbers_reply};
 
 use super::Numbers;
 use catalogue::refusal::Refusal;
+use catalogue::table::Table;
 
 // How often the number stands among them.
 fn count_of(numbers: &[u32; 8], n: u32) -> usize
     ensures { result ≡ count n numbers.now }
 {
-    let mut found = 0;
-    for number in numbers {
-        if *number == n {
-            found += 1;
-        }
-    }
-    found
+    numbers.iter().filter(|number| **number == n).count()
 }
 
-fn in_order(numbers: &[u32; 8], table: u32) -> bool
-    requires { table < 8 }
-    ensures { result ≡ in_order_of numbers.now table }
+fn in_order(numbers: &[u32; 8], table: Table) -> bool
+    ensures { result ≡ in_order_of numbers.now table.number }
 {
-    numbers[table as usize] < 8 && count_of(numbers, table) == 1
+    numbers[table.index()] < 8 && count_of(numbers, table.number()) == 1
 }
 
 fn is_permutation(numbers: &[u32; 8]) -> bool
     ensures { result ≡ permutation numbers.now }
 {
-    for table in 0..8u32 {
-        if !in_order(numbers, table) {
-            return false;
-        }
-    }
-    true
+    Table::all().iter().all(|table| in_order(numbers, *table))
 }
 
 impl Numbers {
@@ -47,10 +36,9 @@ impl Numbers {
     }
 
     // The table below.
-    pub(crate) fn of(&self, table: u32) -> u32
-        requires { table < 8 }
-        ensures { result ≡ slice_index self.now.below table }
+    pub(crate) fn of(&self, table: Table) -> u32
+        ensures { result ≡ slice_index self.now.below table.number }
     {
-        self.below[table as usize]
+        self.below[table.index()]
     }
 }

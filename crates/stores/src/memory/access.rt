@@ -1,10 +1,10 @@
-ghost use Rattle.std.specs.Prelude.{◌≡◌, ◌<◌, replicate, IfOk, slice_index_or, slice_set};
+ghost use Rattle.std.specs.Prelude.{◌≡◌, replicate, IfOk, slice_index_or, slice_set};
 ghost use Rattle.catalogue.specs.Rows.{blank};
 ghost use Rattle.stores.specs.Held.{held, image, beyond, memory_told, memory_reply};
 
 use super::Memory;
 use catalogue::refusal::Refusal;
-use catalogue::row::Row;
+use catalogue::row::{Place, Row};
 use std::alloc::{AllocError, Global};
 
 // The rows of one catalogue.
@@ -35,19 +35,18 @@ impl Memory {
         let Memory { rows } = self;
         rows
     }
-}
 
-pub(crate) fn read_row(memory: &Memory, place: usize) -> Row
-    requires { place < 512 }
-    ensures { result ≡ slice_index_or (image memory.now) place blank }
-{
-    memory.rows[place]
-}
+    pub(crate) fn row(&self, place: Place) -> Row
+        ensures { result ≡ slice_index_or (image self.now) place.index blank }
+    {
+        self.rows[place.index()]
+    }
 
-pub(crate) fn write_row(memory: &mut Memory, place: usize, value: Row)
-    requires { place < 512 }
-    ensures image { image memory.new ≡ slice_set (image memory.old) place value }
-    ensures beyond { beyond memory.new ≡ beyond memory.old }
-{
-    memory.rows[place] = value;
+    #[tactic(auto, using(crate::proofs::HeldRows::held_rows))]
+    pub(crate) fn set_row(&mut self, place: Place, row: Row)
+        ensures image { image self.new ≡ slice_set (image self.old) place.index row }
+        ensures beyond { beyond self.new ≡ beyond self.old }
+    {
+        self.rows[place.index()] = row;
+    }
 }

@@ -1,7 +1,10 @@
-use Rattle.std.proofs.Common.{◌≡◌}
+use Rattle.std.proofs.Common.{◌≡◌, take}
 use Rattle.stores.specs.Held.{image, beyond}
-use Rattle.stores.specs.Changes.{laid}
+use Rattle.stores.specs.Changes.{noted}
 use Rattle.stores.proofs.change_list.fold.Given as goal
 
-abbrev pub invariant-loop-i : goal.invariant-loop-i
-invariant-loop-i l = (image l.memory ≡ laid (image l.initial.memory) l.changes.list l.i) × (beyond l.memory ≡ beyond l.initial.memory)
+abbrev pub invariant-loop-change : goal.invariant-loop-change
+invariant-loop-change l = record {
+  image : image l.memory ≡ noted (image l.initial.memory) (take l.change-index l.changes);
+  beyond : beyond l.memory ≡ beyond l.initial.memory;
+}

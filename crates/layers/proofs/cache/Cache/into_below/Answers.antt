@@ -11,9 +11,9 @@ loop-k-preserved g c =
     let s = c.args.self in
     let rows = g.S.Store.rows in
     let k = c.loop-k.k in (
-      subst (λ (below : List Row). Flushed s.lines (rows s.below) below (k + 1)) (sym c.evict.ensures.rows)
+      subst (λ (below : List Row). Flushed s.lines (rows s.below) below (k + 1)) (sym c.write_back.ensures.rows)
           (flushed_more s.lines (rows s.below) (rows c.loop-k.below) k c.loop-k-test.true (g.S.Store.full c.loop-k.below) c.loop-k.invariant.0),
-      c.evict.ensures.kept ∙ c.loop-k.invariant.1,
+      c.write_back.ensures.kept ∙ c.loop-k.invariant.1,
     )
 
 pub returns : goal.returns

@@ -1,17 +1,15 @@
-use Rattle.std.proofs.Common.{◌≡◌, sym, ap, ◌∙◌, arith}
-use Rattle.layers.specs.Numbers.{all_below, in_order}
-use Rattle.layers.proofs.Permuted.{all_more, all_miss}
+use Rattle.std.proofs.Common.{sym, ap, ◌∙◌, rules, tests}
+use Rattle.std.proofs.lemmas.Iterator.{YieldsList-from_slice}
+use Rattle.std.proofs.lemmas.Iterator.Search.{all_from_yields_List}
+use Rattle.std.proofs.lemmas.List.Folds.{list_all-map}
+use Rattle.std.specs.List.{list_all}
+use Rattle.catalogue.specs.declared.table.Table.{Table}
+use Rattle.layers.specs.Numbers.{in_order}
 use Rattle.layers.proofs.numbers.checks.is_permutation.Goals as goal
-
-pub returns-then-not-in_order : goal.returns-then-not-in_order
-returns-then-not-in_order c =
-    sym (all_miss (in_order c.args.numbers.now) 8 c.loop-table.table c.loop-table-test.true (sym c.if-not-in_order.ensures))
-
-pub loop-table-preserved : goal.loop-table-preserved
-loop-table-preserved c =
-    all_more (in_order c.args.numbers.now) c.loop-table.table c.loop-table.invariant (sym c.if-not-in_order.ensures)
 
 pub returns : goal.returns
 returns c =
-    let all : c.loop-table.table ≡ 8 = omega arith in
-    sym (ap (λ n. all_below n (in_order c.args.numbers.now)) (sym all) ∙ c.loop-table.invariant)
+    let numbers = c.args.numbers.now in
+    all_from_yields_List (λ (t : Table). in_order numbers t.number) _ _ _ c.all-2.ensures.ran (YieldsList-from_slice c.all.result cc) (λ x b q k. search (rules, tests))
+    ∙ sym (list_all-map (in_order numbers) (λ (t : Table). t.number) c.all.result)
+    ∙ ap (list_all (in_order numbers)) c.all.ensures

@@ -4,20 +4,25 @@ use Rattle.layers.specs.Numbers.{renumbered}
 use Rattle.layers.proofs.Renumbered.{put_told_moved, put_moved}
 use Rattle.layers.proofs.renumbering.RenumberingStore.put.Goals as goal
 
-pub returns : goal.returns
-returns g c =
+pub returns-clause-answer : goal.returns-clause-answer
+returns-clause-answer g c =
+    let s = c.args.self.now in
+    let ns = s.numbers.now in
+    let r = c.args.row in
+    let table = c.in_ok-table.table in
+    c.put.ensures.answer
+    ∙ ap (λ t. put_reply t r) c.of.ensures
+    ∙ put_told_moved ns.below ns.once ns.eight (g.S.Store.rows s.below) table.number r table.within
+    ∙ ap (λ t. put_reply t r) c.in_ok-table.ensures.found
+
+pub returns-clause-after : goal.returns-clause-after
+returns-clause-after g c =
     let s = c.args.self.now in
     let ns = s.numbers.now in
     let rows = g.S.Store.rows s.below in
-    let t = c.args.table in
     let r = c.args.row in
     let v = c.args.value in
-    let place = c.in_ok-_place._place in
-    let found = c.in_ok-_place.ensures.found in
-    record {
-      answer = c.put.ensures.answer ∙ ap (λ k. put_reply k r) c.of.ensures ∙ put_told_moved ns.below ns.once ns.eight rows t r place found;
-      after =
-          ap (renumbered ns.below) (c.put.ensures.after ∙ ap (λ k. put_after rows k r v) c.of.ensures)
-          ∙ put_moved ns.below ns.once ns.eight rows t r place found v (g.S.Store.full s.below);
-      kept = c.put.ensures.kept;
-    }
+    let table = c.in_ok-table.table in
+    ap (renumbered ns.below) (c.put.ensures.after ∙ ap (λ t. put_after rows t r v) c.of.ensures)
+    ∙ put_moved ns.below ns.once ns.eight rows table.number r table.within v (g.S.Store.full s.below)
+    ∙ ap (λ t. put_after (renumbered ns.below rows) t r v) c.in_ok-table.ensures.found
