@@ -41,23 +41,13 @@ fn releases(operation: Operation, table: u32) -> bool
 pub(super) fn any_writes_to(operations: &[Operation], table: u32) -> bool
     ensures { result ≡ some (is_write_at table) operations.now }
 {
-    for operation in operations {
-        if writes_to(*operation, table) {
-            return true;
-        }
-    }
-    false
+    operations.iter().any(|o| writes_to(*o, table))
 }
 
 pub(super) fn any_releases(operations: &[Operation], table: u32) -> bool
     ensures { result ≡ released table operations.now }
 {
-    for operation in operations {
-        if releases(*operation, table) {
-            return true;
-        }
-    }
-    false
+    operations.iter().any(|o| releases(*o, table))
 }
 
 pub(super) fn count_writes(operations: &[Operation]) -> usize
