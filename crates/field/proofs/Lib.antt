@@ -1,3 +1,2 @@
 pub mod Cut
 mod Digits
-mod Known

@@ -5,10 +5,8 @@ ghost use Rattle.field.specs.Decimals.{digits_behind, number_below};
 fn push_digit(value: u64, digit: u8) -> Option<u64>
     ensures { result ≡ digits_behind (2 ^ 64) value (digit ∷ []) }
 {
-    if digit < b'0' || digit > b'9' {
-        return None;
-    }
-    value.checked_mul(10)?.checked_add(u64::from(digit - b'0'))
+    let digit = char::from(digit).to_digit(10)?;
+    value.checked_mul(10)?.checked_add(u64::from(digit))
 }
 
 fn all_digits(text: &[u8]) -> Option<u64>

@@ -1,8 +1,7 @@
-ghost use Rattle.std.specs.Prelude.{◌≡◌};
+ghost use Rattle.std.specs.Prelude.{◌≡◌, Option};
 ghost use Rattle.std.specs.Str.{bytes_eq};
-ghost use Rattle.field.specs.Fields.{shown, content_of, bytes_of, nothing_in, narrow_in, wide_in, modes_in};
+ghost use Rattle.field.specs.Fields.{Content, shown, content_of, bytes_of, nothing_in, narrow_in, wide_in, modes_in};
 
-use crate::pieces::same;
 use crate::{decimal, letters};
 use sequencing::mode::Mode;
 
@@ -42,44 +41,60 @@ impl<'a> Field<'a> {
     pub fn is(self, bytes: &[u8]) -> bool
         ensures { result ≡ bytes_eq (bytes_of (shown self.entry)) bytes.now }
     {
-        same(self.text(), bytes)
+        self.text() == bytes
     }
+}
 
-    // The field of a call that does not use it.
-    pub fn nothing(self) -> Option<()>
-        ensures { result ≡ nothing_in (shown self.entry) }
-    {
-        match self {
+// A value that a call may ask of a field; nothing where the field does not say one.
+pub trait FromField: Sized {
+    ghost read: { Content → Option Self };
+
+    fn from_field(field: Field<'_>) -> Option<Self>
+        ensures { result ≡ read (shown field.entry) };
+}
+
+// The field of a call that does not use it is empty.
+impl FromField for () {
+    ghost read = { nothing_in };
+
+    fn from_field(field: Field<'_>) -> Option<()> {
+        match field {
             Field::Empty => Some(()),
             _ => None,
         }
     }
+}
 
-    // A number below 2^32.
-    pub fn narrow(self) -> Option<u32>
-        ensures { result ≡ narrow_in (shown self.entry) }
-    {
-        match self {
-            Field::Number { value, text: _ } if value <= u64::from(u32::MAX) => Some(value as u32),
+// A number below 2^32.
+impl FromField for u32 {
+    ghost read = { narrow_in };
+
+    fn from_field(field: Field<'_>) -> Option<u32> {
+        match field {
+            Field::Number { value, text: _ } => u32::try_from(value).ok(),
             _ => None,
         }
     }
+}
 
-    // A number below 2^64.
-    pub fn wide(self) -> Option<u64>
-        ensures { result ≡ wide_in (shown self.entry) }
-    {
-        match self {
+// A number below 2^64.
+impl FromField for u64 {
+    ghost read = { wide_in };
+
+    fn from_field(field: Field<'_>) -> Option<u64> {
+        match field {
             Field::Number { value, text: _ } => Some(value),
             _ => None,
         }
     }
+}
 
-    // The letters of a declaration.
-    pub fn modes(self) -> Option<[Mode; 8]>
-        ensures { result ≡ modes_in (shown self.entry) }
-    {
-        match self {
+// The letters of a declaration.
+impl FromField for [Mode; 8] {
+    ghost read = { modes_in };
+
+    fn from_field(field: Field<'_>) -> Option<[Mode; 8]> {
+        match field {
             Field::Word(text) => letters::modes(text),
             _ => None,
         }

@@ -1,4 +1,4 @@
-ghost use Rattle.std.specs.Prelude.{◌≡◌, ◌<◌, slice_set};
+ghost use Rattle.std.specs.Prelude.{◌≡◌};
 ghost use Rattle.field.specs.Letters.{mode_of, declaration_of};
 
 use sequencing::mode::Mode;
@@ -14,23 +14,21 @@ pub fn mode(letter: u8) -> Option<Mode>
     }
 }
 
-fn declare(modes: &mut [Mode; 8], table: usize, mode: Mode)
-    requires { table < 8 }
-    ensures { modes.new ≡ slice_set modes.old table mode }
-{
-    modes[table] = mode;
-}
-
 // The modes of tables 0 to 7; nothing where there are not eight letters, or a byte is none.
 pub fn modes(letters: &[u8]) -> Option<[Mode; 8]>
     ensures { result ≡ declaration_of letters.now }
 {
-    if letters.len() != 8 {
-        return None;
+    match letters {
+        [a, b, c, d, e, f, g, h] => Some([
+            mode(*a)?,
+            mode(*b)?,
+            mode(*c)?,
+            mode(*d)?,
+            mode(*e)?,
+            mode(*f)?,
+            mode(*g)?,
+            mode(*h)?,
+        ]),
+        _ => None,
     }
-    let mut modes = [Mode::None; 8];
-    for (table, letter) in letters.iter().enumerate() {
-        declare(&mut modes, table, mode(*letter)?);
-    }
-    Some(modes)
 }

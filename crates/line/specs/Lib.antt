@@ -1,3 +1,4 @@
+pub mod Columns
 pub mod Refusals
 pub mod Calls
 pub mod Lines

@@ -1,54 +1,32 @@
 ghost use Rattle.std.specs.Prelude.{◌≡◌, ◌≤◌, [], ◌∷◌, length, Some, None, Ok, Err};
 ghost use Rattle.field.specs.Pieces.{pieces};
-ghost use Rattle.field.specs.Fields.{shown, nothing_in, narrow_in, wide_in, modes_in};
+ghost use Rattle.field.specs.Fields.{shown};
+ghost use Rattle.line.specs.declared.column.Column.{Column};
+ghost use Rattle.line.specs.Columns.{column_number, columns_from};
 ghost use Rattle.line.specs.Refusals.{told};
 ghost use Rattle.line.specs.Calls.{begin_form, write_form, read_form, release_form, commit_form, abort_form, step_form, form_reply, call_reply};
-ghost use Rattle.line.specs.Lines.{in_column, behind, bad_field, bad_line, told_fields, cut_reply};
+ghost use Rattle.line.specs.Lines.{in_column, behind, lowest_used, bad_field, bad_line, told_fields, cut_reply};
 
+use crate::column::Column;
 use crate::refusal::SheetRefusal;
 use catalogue::refusal::Refusal;
 use catalogue::row::Row;
-use field::field::Field;
+use field::field::{Field, FromField};
 use field::pieces::split_at_mark;
 use sequencing::call::Call;
-use sequencing::mode::Mode;
-
-// The columns behind the call's word, numbered from the line's first field.
-#[derive(Clone, Copy)]
-pub enum Column {
-    Number = 2,
-    Place = 3,
-    Row = 4,
-    High = 5,
-    Low = 6,
-    Class = 7,
-}
 
 // The seven fields of a line, and the line's number.
 #[derive(Clone, Copy)]
 pub struct Fields<'a> {
     pub line: u32,
-    pub call: Field<'a>,
-    pub number: Field<'a>,
-    pub place: Field<'a>,
-    pub row: Field<'a>,
-    pub high: Field<'a>,
-    pub low: Field<'a>,
-    pub class: Field<'a>,
+    pub fields: [Field<'a>; 7],
 }
 
 // The first field of the text, and what stands behind its comma.
 fn first_field<'a>(line: u32, text: &'a [u8]) -> Result<(&'a [u8], &'a [u8]), SheetRefusal>
     ensures { elim result [ Ok p ↦ pieces 44 text.now ≡ p.0.now ∷ pieces 44 p.1.now | Err e ↦ (pieces 44 text.now ≡ text.now ∷ []) × (e ≡ bad_line line) ] }
 {
-    match split_at_mark(b',', text) {
-        Some(parts) => Ok(parts),
-        None => Err(SheetRefusal {
-            refusal: Refusal::BadLine,
-            line,
-            field: 0,
-        }),
-    }
+    split_at_mark(b',', text).ok_or(SheetRefusal::of_line(Refusal::BadLine, line))
 }
 
 // The last field, behind which there is no comma.
@@ -57,11 +35,7 @@ fn last_field<'a>(line: u32, text: &'a [u8]) -> Result<&'a [u8], SheetRefusal>
 {
     match split_at_mark(b',', text) {
         None => Ok(text),
-        Some(_) => Err(SheetRefusal {
-            refusal: Refusal::BadLine,
-            line,
-            field: 0,
-        }),
+        Some(_) => Err(SheetRefusal::of_line(Refusal::BadLine, line)),
     }
 }
 
@@ -79,84 +53,63 @@ impl<'a> Fields<'a> {
         let class = last_field(line, text)?;
         Ok(Fields {
             line,
-            call: Field::of(call),
-            number: Field::of(number),
-            place: Field::of(place),
-            row: Field::of(row),
-            high: Field::of(high),
-            low: Field::of(low),
-            class: Field::of(class),
+            fields: [
+                Field::of(call),
+                Field::of(number),
+                Field::of(place),
+                Field::of(row),
+                Field::of(high),
+                Field::of(low),
+                Field::of(class),
+            ],
         })
     }
 
     fn at(&self, column: Column) -> Field<'a>
         ensures { shown result ≡ in_column self.now column }
     {
-        match column {
-            Column::Number => self.number,
-            Column::Place => self.place,
-            Column::Row => self.row,
-            Column::High => self.high,
-            Column::Low => self.low,
-            Column::Class => self.class,
+        self.fields[column as usize - 1]
+    }
+
+    // What the column's field says; a refusal where it does not say it.
+    fn get<T: FromField>(&self, column: Column) -> Result<T, SheetRefusal>
+        ensures { elim result [ Ok x ↦ T.read (in_column self.now column) ≡ Some x | Err e ↦ (T.read (in_column self.now column) ≡ None) × (e ≡ bad_field self.now.line column) ] }
+    {
+        T::from_field(self.at(column)).ok_or(SheetRefusal::of_field(
+            Refusal::BadField,
+            self.line,
+            column,
+        ))
+    }
+
+    // A call uses no field from the column on.
+    fn unused_from(&self, column: Column) -> Result<(), SheetRefusal>
+        ensures { elim result [ Ok x ↦ lowest_used self.now (columns_from column) ≡ 0 | Err e ↦ (c : Column) × (e ≡ bad_field self.now.line c) × (lowest_used self.now (columns_from column) ≡ column_number c) ] }
+    {
+        for unused in column.and_behind() {
+            self.get::<()>(*unused)?;
         }
-    }
-
-    fn bad_field(&self, column: Column) -> SheetRefusal
-        ensures { result ≡ bad_field self.now.line column }
-    {
-        SheetRefusal {
-            refusal: Refusal::BadField,
-            line: self.line,
-            field: column as u32,
-        }
-    }
-
-    fn nothing(&self, column: Column) -> Result<(), SheetRefusal>
-        ensures { elim result [ Ok x ↦ nothing_in (in_column self.now column) ≡ Some x | Err e ↦ (nothing_in (in_column self.now column) ≡ None) × (e ≡ bad_field self.now.line column) ] }
-    {
-        self.at(column).nothing().ok_or(self.bad_field(column))
-    }
-
-    fn narrow(&self, column: Column) -> Result<u32, SheetRefusal>
-        ensures { elim result [ Ok x ↦ narrow_in (in_column self.now column) ≡ Some x | Err e ↦ (narrow_in (in_column self.now column) ≡ None) × (e ≡ bad_field self.now.line column) ] }
-    {
-        self.at(column).narrow().ok_or(self.bad_field(column))
-    }
-
-    fn wide(&self, column: Column) -> Result<u64, SheetRefusal>
-        ensures { elim result [ Ok x ↦ wide_in (in_column self.now column) ≡ Some x | Err e ↦ (wide_in (in_column self.now column) ≡ None) × (e ≡ bad_field self.now.line column) ] }
-    {
-        self.at(column).wide().ok_or(self.bad_field(column))
-    }
-
-    fn modes(&self, column: Column) -> Result<[Mode; 8], SheetRefusal>
-        ensures { elim result [ Ok x ↦ modes_in (in_column self.now column) ≡ Some x | Err e ↦ (modes_in (in_column self.now column) ≡ None) × (e ≡ bad_field self.now.line column) ] }
-    {
-        self.at(column).modes().ok_or(self.bad_field(column))
+        Ok(())
     }
 
     fn begin(&self) -> Result<Call, SheetRefusal>
         ensures { told result ≡ form_reply begin_form self.now.line (behind self.now) }
     {
-        self.nothing(Column::Number)?;
-        let modes = self.modes(Column::Place)?;
-        self.nothing(Column::Row)?;
-        self.nothing(Column::High)?;
-        self.nothing(Column::Low)?;
-        self.nothing(Column::Class)?;
+        self.get::<()>(Column::Number)?;
+        let modes = self.get(Column::Place)?;
+        self.unused_from(Column::Row)?;
         Ok(Call::Begin { modes })
     }
 
     fn write(&self) -> Result<Call, SheetRefusal>
         ensures { told result ≡ form_reply write_form self.now.line (behind self.now) }
     {
-        let number = self.narrow(Column::Number)?;
-        let table = self.narrow(Column::Place)?;
-        let row = self.narrow(Column::Row)?;
-        let high = self.wide(Column::High)?;
-        let low = self.wide(Column::Low)?;
-        let class = self.narrow(Column::Class)?;
+        let number = self.get(Column::Number)?;
+        let table = self.get(Column::Place)?;
+        let row = self.get(Column::Row)?;
+        let high = self.get(Column::High)?;
+        let low = self.get(Column::Low)?;
+        let class = self.get(Column::Class)?;
         Ok(Call::Write {
             number,
             table,
@@ -169,68 +122,53 @@ impl<'a> Fields<'a> {
     fn read(&self) -> Result<Call, SheetRefusal>
         ensures { told result ≡ form_reply read_form self.now.line (behind self.now) }
     {
-        let number = self.narrow(Column::Number)?;
-        let table = self.narrow(Column::Place)?;
-        let row = self.narrow(Column::Row)?;
-        self.nothing(Column::High)?;
-        self.nothing(Column::Low)?;
-        self.nothing(Column::Class)?;
+        let number = self.get(Column::Number)?;
+        let table = self.get(Column::Place)?;
+        let row = self.get(Column::Row)?;
+        self.unused_from(Column::High)?;
         Ok(Call::Read { number, table, row })
     }
 
     fn release(&self) -> Result<Call, SheetRefusal>
         ensures { told result ≡ form_reply release_form self.now.line (behind self.now) }
     {
-        let number = self.narrow(Column::Number)?;
-        let table = self.narrow(Column::Place)?;
-        self.nothing(Column::Row)?;
-        self.nothing(Column::High)?;
-        self.nothing(Column::Low)?;
-        self.nothing(Column::Class)?;
+        let number = self.get(Column::Number)?;
+        let table = self.get(Column::Place)?;
+        self.unused_from(Column::Row)?;
         Ok(Call::Release { number, table })
     }
 
     fn commit(&self) -> Result<Call, SheetRefusal>
         ensures { told result ≡ form_reply commit_form self.now.line (behind self.now) }
     {
-        let number = self.narrow(Column::Number)?;
-        self.nothing(Column::Place)?;
-        self.nothing(Column::Row)?;
-        self.nothing(Column::High)?;
-        self.nothing(Column::Low)?;
-        self.nothing(Column::Class)?;
+        let number = self.get(Column::Number)?;
+        self.unused_from(Column::Place)?;
         Ok(Call::Commit { number })
     }
 
     fn abort(&self) -> Result<Call, SheetRefusal>
         ensures { told result ≡ form_reply abort_form self.now.line (behind self.now) }
     {
-        let number = self.narrow(Column::Number)?;
-        self.nothing(Column::Place)?;
-        self.nothing(Column::Row)?;
-        self.nothing(Column::High)?;
-        self.nothing(Column::Low)?;
-        self.nothing(Column::Class)?;
+        let number = self.get(Column::Number)?;
+        self.unused_from(Column::Place)?;
         Ok(Call::Abort { number })
     }
 
     fn step(&self) -> Result<Call, SheetRefusal>
         ensures { told result ≡ form_reply step_form self.now.line (behind self.now) }
     {
-        let number = self.narrow(Column::Number)?;
-        let replica = self.narrow(Column::Place)?;
-        self.nothing(Column::Row)?;
-        self.nothing(Column::High)?;
-        self.nothing(Column::Low)?;
-        self.nothing(Column::Class)?;
+        let number = self.get(Column::Number)?;
+        let replica = self.get(Column::Place)?;
+        self.unused_from(Column::Row)?;
         Ok(Call::Step { number, replica })
     }
 
     // The call that the line makes, by its word.
     pub fn read_call(&self) -> Result<Call, SheetRefusal>
-        ensures { told result ≡ call_reply self.now.line (shown self.now.call) (behind self.now) }
+        ensures { told result ≡ call_reply self.now.line (in_column self.now Column.Call) (behind self.now) }
     {
-        let word = self.call;
+        let word = self.at(Column::Call);
+        // No match on byte strings: the proof of its last arm has 35 cases, one for each place at which two words part.
         if word.is(b"begin") {
             self.begin()
         } else if word.is(b"write") {
@@ -246,11 +184,7 @@ impl<'a> Fields<'a> {
         } else if word.is(b"step") {
             self.step()
         } else {
-            Err(SheetRefusal {
-                refusal: Refusal::UnknownCall,
-                line: self.line,
-                field: 1,
-            })
+            Err(SheetRefusal::of_field(Refusal::UnknownCall, self.line, Column::Call))
         }
     }
 }

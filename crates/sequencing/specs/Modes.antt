@@ -1,5 +1,6 @@
 -- How a transaction declares a table.
-use Rattle.std.specs.Prelude.{ℕ, Bool, true, false, ◌||◌, List, [], ◌∷◌}
+use Rattle.std.specs.Prelude.{ℕ, Bool, true, false, List, [], ◌∷◌}
+use Rattle.std.specs.List.{list_any}
 use Rattle.sequencing.specs.declared.mode.Mode.{Mode}
 
 -- A table is declared when its mode is read or write.
@@ -10,8 +11,7 @@ declares Mode.Write = true
 
 -- At least one element passes.
 abbrev pub some : {A : Type 0} → (A → Bool) → List A → Bool
-some p [] = false
-some p (x ∷ xs) = p x || some p xs
+some p xs = list_any p xs
 
 -- At least one table is declared.
 abbrev pub declares_any : List Mode → Bool

@@ -9,7 +9,7 @@ pub struct Next {
     pub write: u32,
 }
 
-// What a transaction is assigned at a table, by the mode in which it declares it.
+// What a transaction is assigned at a table, by the mode in which it declares it: its cases are the modes', so it is no Option either.
 #[derive(Clone, Copy, PartialEq, Eq, Debug)]
 pub enum Assigned {
     None,

@@ -1,7 +1,8 @@
 -- A sheet's entries, line by line.
-use Rattle.std.proofs.Common.{◌≡◌, ℕ, true, false, eqb, List, [], ◌∷◌, ◌++◌, is_some, Some, None, sym, refl, ap, ◌∙◌, append_assoc}
+use Rattle.std.proofs.Common.{◌≡◌, ℕ, true, false, cond, eqb, List, [], ◌∷◌, ◌++◌, is_some, Some, None, Ok, Option, sym, refl, ap, ◌∙◌, append_assoc}
 use Rattle.sequencing.specs.declared.call.Call.{Call}
-use Rattle.line.specs.Refusals.{Told}
+use Rattle.std.specs.Option.{option_map}
+use Rattle.line.specs.Refusals.{Told, told}
 use Rattle.sheet.specs.Sheets.{Line, entries, line_reply, counted_on, first_reply, first_entry, Standing, skip_after, next_after}
 use Rattle.sheet.proofs.Stood.{fair_line}
 
@@ -9,14 +10,17 @@ module _ (sheet : List ℕ) (n : ℕ) where
   abbrev at : List Line → Standing
   at left = record { sheet = sheet; left = left; line = n }
 
-  -- where the next line's answer has no call and is no refusal, there is no line
-  pub end_entry : (left : List Line) → (0, 0, 0, None) ≡ first_reply n left → (None ≡ first_entry n left) × (next_after (at left) ≡ skip_after (at left))
-  end_entry [] e = (refl, refl)
-  end_entry (l ∷ ls) e =
+  -- where the next line's answer is no refusal, it is what the line tells, and there is no line where it has no call
+  pub ok_entry : (left : List Line) (o : Option Call) → (0, 0, 0, o) ≡ first_reply n left → (option_map (told {T = Call}) (option_map (λ x. Ok x) o) ≡ first_entry n left) × (next_after (at left) ≡ skip_after (at left))
+  ok_entry [] None e = (refl, refl)
+  ok_entry [] (Some x) e = let no : ◌≡◌ {A = Option Call} (Some x) None = ap (λ t. t.3) e in cc
+  ok_entry (l ∷ ls) None e =
       let zero : eqb (line_reply n l).0 0 ≡ true = sym (ap (λ (t : Told Call). eqb t.0 0) e) in
       let none : is_some (line_reply n l).3 ≡ false = sym (ap (λ (t : Told Call). is_some t.3) e) in
       let no : true ≡ false = sym zero ∙ fair_line n l ∙ none in
-      (cc, cc)
+      cc
+  ok_entry (l ∷ ls) (Some x) e =
+      (ap (λ (t : Told Call). Some t) e, ap (λ (t : Told Call). cond (eqb t.0 0) (skip_after (at (l ∷ ls))) (at (l ∷ ls))) (sym e))
 
   -- an entry more
   pub entries_more : (done all : List (Told Call)) (left : List Line) (t : Told Call) → done ++ entries n left ≡ all → Some t ≡ first_entry n left → (done ++ t ∷ []) ++ entries (skip_after (at left)).line (skip_after (at left)).left ≡ all

@@ -7,7 +7,7 @@ use Rattle.sheet.specs.declared.reader.Reader.{Reader}
 use Rattle.line.specs.declared.refusal.SheetRefusal.{SheetRefusal}
 use Rattle.field.specs.Pieces.{pieces}
 use Rattle.field.specs.Fields.{Content}
-use Rattle.line.specs.Refusals.{Told, accepted, refused}
+use Rattle.line.specs.Refusals.{Told, field_of, accepted, refused}
 use Rattle.line.specs.Calls.{call_reply}
 use Rattle.line.specs.Lines.{contents_of}
 
@@ -69,7 +69,7 @@ next_reply s = first_reply s.line s.left
 -- What an answer for the next line tells, which has no call at the end of the sheet.
 abbrev pub told_next : {T : Type 0} → Result (Option T) SheetRefusal → Told T
 told_next (Ok x) = (0, 0, 0, x)
-told_next (Err r) = refused r.refusal r.line r.field
+told_next (Err r) = refused r.refusal r.line (field_of r.column)
 
 -- One line further; at the end there is none.
 abbrev pub past_first : List ℕ → ℕ → List Line → Standing
@@ -111,7 +111,7 @@ open_reply sheet = cond (nat_lt 65536 (length sheet)) (refused Refusal.SheetTooL
 
 abbrev pub told_reader : Result Reader SheetRefusal → Told Standing
 told_reader (Ok r) = accepted (standing r)
-told_reader (Err r) = refused r.refusal r.line r.field
+told_reader (Err r) = refused r.refusal r.line (field_of r.column)
 
 -- All that a sheet tells: the refusal to open it alone, or what each line behind the names does.
 abbrev pub told_from : Told Standing → List (Told Call)

@@ -48,15 +48,8 @@ fn read_line(sheet: &[u8], cursor: &mut usize, line: u32) -> Result<Call, SheetR
     ensures answer { told result ≡ first_reply line (lines (drop cursor.old sheet.now)) }
     ensures left { (l : Line) × (lines (drop cursor.old sheet.now) ≡ l ∷ lines (drop cursor.new sheet.now)) }
 {
-    let Some(text) = take_line(sheet, cursor) else {
-        return Err(SheetRefusal {
-            refusal: Refusal::BadLine,
-            line,
-            field: 0,
-        });
-    };
-    let fields = Fields::cut(line, text)?;
-    fields.read_call()
+    let text = take_line(sheet, cursor).ok_or(SheetRefusal::of_line(Refusal::BadLine, line))?;
+    Fields::cut(line, text)?.read_call()
 }
 
 impl<'a> Reader<'a> {
@@ -65,28 +58,15 @@ impl<'a> Reader<'a> {
         ensures { told_reader result ≡ open_reply sheet.now }
     {
         if sheet.len() > MOST_BYTES {
-            return Err(SheetRefusal {
-                refusal: Refusal::SheetTooLong,
-                line: 1,
-                field: 0,
-            });
+            return Err(SheetRefusal::of_line(Refusal::SheetTooLong, 1));
         }
-        let bad_names = SheetRefusal {
-            refusal: Refusal::BadNames,
-            line: 1,
-            field: 0,
-        };
-        let Some((names, _)) = split_at_mark(b'\n', sheet) else {
-            return Err(bad_names);
-        };
-        if names == NAMES {
-            Ok(Reader {
+        match split_at_mark(b'\n', sheet) {
+            Some((names, _)) if names == NAMES => Ok(Reader {
                 sheet,
                 at: names.len() + 1,
                 line: 2,
-            })
-        } else {
-            Err(bad_names)
+            }),
+            _ => Err(SheetRefusal::of_line(Refusal::BadNames, 1)),
         }
     }
 
@@ -125,8 +105,7 @@ impl<'a> Reader<'a> {
         ensures after { standing self.new ≡ skip_after (standing self.old) }
     {
         match self.next_line() {
-            Ok(None) => None,
-            Ok(Some(call)) => Some(Ok(call)),
+            Ok(call) => call.map(Ok),
             Err(refusal) => {
                 self.skip();
                 Some(Err(refusal))

@@ -6,6 +6,7 @@ ghost use Rattle.sequencing.specs.Sequencer.{next_at, assigned, moved_on, all_as
 use super::{Assigned, Begun, Next, Sequencer};
 use crate::mode::Mode;
 use catalogue::refusal::Refusal;
+use std::array;
 
 // As many transactions may begin over the life of a sequencer.
 const MOST_BEGUN: u32 = 1_000_000;
@@ -13,12 +14,7 @@ const MOST_BEGUN: u32 = 1_000_000;
 pub fn declares_any(modes: &[Mode; 8]) -> bool
     ensures { result ≡ declares_any_of modes.now }
 {
-    for mode in modes {
-        if mode.declares() {
-            return true;
-        }
-    }
-    false
+    modes.iter().any(|mode| mode.declares())
 }
 
 impl Next {
@@ -50,20 +46,19 @@ impl Next {
     }
 }
 
-// Every table at once: what its mode is assigned, and its counters moved on.
-fn assign_all(next: &mut [Next; 8], modes: &[Mode; 8]) -> [Assigned; 8]
-    requires { (t : ℕ) → (next_at next.old t).write < 1000000 }
-    ensures answer { result ≡ all_assigned modes.now next.old }
-    ensures after { next.new ≡ all_moved_on modes.now next.old }
+// What each table gives to its mode.
+fn assign_all(next: &[Next; 8], modes: &[Mode; 8]) -> [Assigned; 8]
+    ensures { result ≡ all_assigned modes.now next.now }
 {
-    let mut assigned = [Assigned::None; 8];
-    for t in 0..8usize {
-        let mode = modes[t];
-        let counters = next[t];
-        assigned[t] = counters.assign(mode);
-        next[t] = counters.after(mode);
-    }
-    assigned
+    array::from_fn(|t| next[t].assign(modes[t]))
+}
+
+// The counters of each table, moved on by its mode.
+fn move_all_on(next: &[Next; 8], modes: &[Mode; 8]) -> [Next; 8]
+    requires { (t : ℕ) → (next_at next.now t).write < 1000000 }
+    ensures { result ≡ all_moved_on modes.now next.now }
+{
+    array::from_fn(|t| next[t].after(modes[t]))
 }
 
 impl Sequencer {
@@ -89,8 +84,7 @@ impl Sequencer {
     pub fn begun(&self) -> u32
         ensures { result ≡ (counts_of self.now).begun }
     {
-        let Sequencer { begun, .. } = self;
-        *begun
+        self.begun
     }
 
     // Lets a transaction begin that no check refuses.
@@ -99,10 +93,15 @@ impl Sequencer {
         ensures answer { result ≡ admitted (counts_of self.old) modes.now }
         ensures after { counts_of self.new ≡ admitted_after (counts_of self.old) modes.now }
     {
-        let number = self.begun;
-        let assigned = assign_all(&mut self.next, modes);
-        self.begun = number + 1;
-        Begun { number, assigned }
+        let begun = Begun {
+            number: self.begun,
+            assigned: assign_all(&self.next, modes),
+        };
+        *self = Sequencer {
+            begun: self.begun + 1,
+            next: move_all_on(&self.next, modes),
+        };
+        begun
     }
 
     pub fn begin(&mut self, modes: &[Mode; 8]) -> Result<Begun, Refusal>

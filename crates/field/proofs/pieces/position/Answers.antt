@@ -1,17 +1,12 @@
-use Rattle.field.proofs.Cut.{none_before, past_byte, at_mark, no_mark}
+use Rattle.std.proofs.Common.{◌≡◌, eqb, position, rules, tests}
+use Rattle.std.proofs.lemmas.Iterator.{YieldsList-from_slice}
+use Rattle.std.proofs.lemmas.Iterator.Search.{position_from_yields_List}
+use Rattle.field.proofs.Cut.{cut_there}
 use Rattle.field.proofs.pieces.position.Goals as goal
 
-pub returns-then-byte-mark : goal.returns-then-byte-mark
-returns-then-byte-mark c = (
-  at_mark c.args.mark c.args.text.now c.loop-i.i c.loop-i.invariant c.loop-i-test.true c.if-byte-mark.true,
-  c.loop-i-test.true,
-)
-
-pub loop-i-init : goal.loop-i-init
-loop-i-init c = none_before c.args.mark c.args.text.now
-
-pub loop-i-preserved : goal.loop-i-preserved
-loop-i-preserved c = past_byte c.args.mark c.args.text.now c.loop-i.i c.loop-i.invariant c.loop-i-test.true c.if-byte-mark.false
-
 pub returns : goal.returns
-returns c = no_mark c.args.mark c.args.text.now c.loop-i.i c.loop-i.invariant c.loop-i-test.false
+returns c =
+    let text = c.args.text.now in
+    let first : c.position.result ≡ position (λ b. eqb b c.args.mark) text =
+    position_from_yields_List (λ b. eqb b c.args.mark) _ _ c.position.result c.position.ensures.ran (YieldsList-from_slice text c.iter.ensures.rest) (λ x b q k. search (rules, tests)) in
+    rw first (cut_there (λ b. eqb b c.args.mark) text)

@@ -3,7 +3,7 @@ use Rattle.std.proofs.lemmas.Result.{err_from_is_err_and}
 use Rattle.sequencing.specs.declared.call.Call.{Call}
 use Rattle.sheet.specs.declared.reader.Reader.{Reader}
 use Rattle.line.specs.declared.refusal.SheetRefusal.{SheetRefusal}
-use Rattle.line.specs.Refusals.{Told, refused}
+use Rattle.line.specs.Refusals.{Told, field_of, refused}
 use Rattle.sheet.specs.Sheets.{lines, first_reply, standing, told_next}
 use Rattle.sheet.proofs.Lined.{at_end}
 use Rattle.sheet.proofs.Stood.{end_reply, end_after, refused_after, kept_so}
@@ -25,14 +25,14 @@ returns-in_err-call c =
     let there : c.new-guard.result.cursor.now ≡ r.at = c.new-guard.ensures.value in
     let back : c.drop-guard.new.self.0 ≡ r.at = c.drop-guard.ensures ∙ c.new-guard.ensures.from in
     let e = c.in_err-call.field-0.0 in
-    let same : ◌≡◌ {A = Told Call} (refused e.refusal e.line e.field) (first_reply r.line left) =
+    let same : ◌≡◌ {A = Told Call} (refused e.refusal e.line (field_of e.column)) (first_reply r.line left) =
     c.in_err-call.ensures.answer ∙ ap (λ k. first_reply r.line (lines (drop k sheet))) there in
     let l = c.in_err-call.ensures.left.0 in
     let ls = lines (drop c.read_line.new.cursor sheet) in
     let more : left ≡ l ∷ ls = ap (λ k. lines (drop k sheet)) (sym there) ∙ c.in_err-call.ensures.left.1 in
     let as-was : ◌≡◌ {A = Reader} (record { sheet = r.sheet; at = c.drop-guard.new.self.0; line = r.line }) r = ap (λ (k : ℕ). record { sheet = r.sheet; at = k; line = r.line }) back in
     record {
-      answer = ap (told_next {T = Call}) p.1 ∙ ap (λ (x : SheetRefusal). refused {T = Call} x.refusal x.line x.field) p.2 ∙ same;
+      answer = ap (told_next {T = Call}) p.1 ∙ ap (λ (x : SheetRefusal). refused {T = Call} x.refusal x.line (field_of x.column)) p.2 ∙ same;
       after = ap standing as-was ∙ refused_after sheet r.line left l ls more (sym (ap (λ (t : Told Call). t.3) same));
       kept = kept_so c.from_residual.result r _ as-was;
     }
