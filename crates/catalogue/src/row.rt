@@ -39,16 +39,25 @@ impl Default for Place {
     }
 }
 
-// Where the row of the table stands among the 512.
+impl Table {
+    // Where the row of the table stands among the 512.
+    pub fn place(self, row: u32) -> Result<Place, Refusal>
+        ensures answer { told_as (λ place. place.index) result ≡ place_reply self.number row }
+        ensures found { IfOk result (λ place. Placed self.number row place.index) }
+    {
+        if row >= ROWS {
+            return Err(Refusal::RowOutOfRange);
+        }
+        Ok(Place {
+            index: self.number() * ROWS + row,
+        })
+    }
+}
+
+// Where the row of the table stands, which is refused first where there is no such table.
 pub fn place_of(table: u32, row: u32) -> Result<Place, Refusal>
     ensures answer { told_as (λ place. place.index) result ≡ place_reply table row }
     ensures found { IfOk result (λ place. Placed table row place.index) }
 {
-    let table = Table::new(table)?;
-    if row >= ROWS {
-        return Err(Refusal::RowOutOfRange);
-    }
-    Ok(Place {
-        index: table.number() * ROWS + row,
-    })
+    Table::new(table)?.place(row)
 }

@@ -1,13 +1,15 @@
 -- What the operations of a transaction cost: all of them, with one more, and what is left at a replica.
-use Rattle.std.proofs.Common.{◌≡◌, ℕ, zero, suc, ◌+◌, ◌*◌, ◌≤◌, List, [], ◌∷◌, ◌++◌, length, get_or, sum_by, sym, ap, ◌∙◌, arith}
+use Rattle.std.proofs.Common.{◌≡◌, ℕ, zero, suc, ◌+◌, ◌*◌, ◌≤◌, List, [], ◌∷◌, ◌++◌, map, length, get_or, sum_by, sym, refl, ap, ◌∙◌, arith}
+use Rattle.std.specs.List.{AllByRecursion}
 use Rattle.std.proofs.ByRecursion.{All-from_get_or, sum_by_le}
 use Rattle.std.proofs.lemmas.List.{take-append-le}
-use Rattle.std.proofs.lemmas.List.Sums.{sum_by-take-drop}
+use Rattle.std.proofs.lemmas.List.Sums.{sum_by-take-drop, sum_by-cons}
 use Rattle.versioning.specs.declared.operation.Operation.{Operation}
 use Rattle.versioning.specs.Machine.{cost, costs, cost_left}
 use Rattle.cluster.specs.declared.transaction.Transaction.{Transaction}
 use Rattle.cluster.specs.Orderly.{progress_at, executed_at, Priced}
 use Rattle.cluster.specs.Transactions.{transaction_of}
+use Rattle.cluster.proofs.Asked.{most_asked}
 
 -- an operation costs 34 at most
 class_most : (c : ℕ) → get_or costs c 0 ≤ 34
@@ -47,3 +49,20 @@ module _ (x : Transaction) where
   pub priced_asked : (op : Operation) → Priced x.progress (x.asked.items ++ (op ∷ []))
   priced_asked op j =
       x.priced j ∙ ap (sum_by cost) (sym (take-append-le (executed_at x.progress j) x.asked.items (op ∷ []) (x.within j)))
+
+-- what transactions cost together at a replica, of which a cluster has 16 at most
+pub left_most : (xs : List Transaction) (j : ℕ) → sum_by (λ x. cost_left (transaction_of x) j) xs ≤ length xs * 850
+left_most xs j =
+    sum_by_le (λ x. cost_left (transaction_of x) j) 850 xs (all_from xs)
+  where
+    all_from : (ys : List Transaction) → AllByRecursion (λ x. cost_left (transaction_of x) j ≤ 850) ys
+    all_from [] = tt
+    all_from (y ∷ ys) = (omega (arith, left_is y j, all_most y, most_asked y), all_from ys)
+
+-- the same, of the transactions as the machine has them
+pub left_shown : (xs : List Transaction) (j : ℕ) → sum_by (λ x. cost_left (transaction_of x) j) xs ≡ sum_by (λ u. cost_left u j) (map transaction_of xs)
+left_shown [] j = refl
+left_shown (x ∷ xs) j =
+    sum_by-cons (λ y. cost_left (transaction_of y) j) x xs
+    ∙ ap (λ n. cost_left (transaction_of x) j + n) (left_shown xs j)
+    ∙ sym (sum_by-cons (λ u. cost_left u j) (transaction_of x) (map transaction_of xs))

@@ -1,21 +1,27 @@
-ghost use Rattle.std.specs.Prelude.{◌≡◌, length, vec_len};
+ghost use Rattle.std.specs.Prelude.{◌≡◌, ◌==◌, length, vec_len};
+ghost use Rattle.std.specs.List.{position};
 ghost use Rattle.cluster.specs.Transactions.{transactions_of, Stands};
 ghost use Rattle.cluster.specs.View.{state_of};
 
 use super::Cluster;
+use crate::transaction::Transaction;
 use catalogue::replicas::Replicas;
+
+// Where the first transaction of the number stands.
+fn first_numbered(transactions: &[Transaction], number: u32) -> Option<usize>
+    ensures { result ≡ position (λ x. x.number == number) transactions.now }
+{
+    transactions
+        .iter()
+        .position(|transaction| transaction.number() == number)
+}
 
 impl<R> Cluster<R> {
     // Where the transaction stands among the unfinished.
     pub(crate) fn position(&self, number: u32) -> Option<usize>
         ensures { Stands number (transactions_of self.now.unfinished.items) result }
     {
-        for (i, transaction) in self.unfinished.iter().enumerate() {
-            if transaction.number() == number {
-                return Some(i);
-            }
-        }
-        None
+        first_numbered(self.unfinished.as_slice(), number)
     }
 }
 

@@ -1,6 +1,6 @@
-ghost use Rattle.std.specs.Prelude.{◌≡◌, ◌<◌, length, nat_lt};
+ghost use Rattle.std.specs.Prelude.{◌≡◌, ◌^◌, ◌<◌, length, sum_by, nat_lt};
 ghost use Rattle.catalogue.specs.Refusals.{told, told_as};
-ghost use Rattle.versioning.specs.Machine.{load as load_of, better as better_of, least, and_then, read_reply, read_as_reply, write_reply, write_after};
+ghost use Rattle.versioning.specs.Machine.{cost_left, load as load_of, better as better_of, least, and_then, read_reply, read_as_reply, write_reply, write_after};
 ghost use Rattle.cluster.specs.Transactions.{transaction_of};
 ghost use Rattle.cluster.specs.View.{state_of, fits, choice, fetched, number_of};
 
@@ -10,18 +10,26 @@ use crate::transaction::Transaction;
 use catalogue::refusal::Refusal;
 use catalogue::replicas::Replicas;
 use catalogue::row::Row;
+use catalogue::table::Table;
 use versioning::family::Family;
 
+// What all of them still cost at the replica.
+fn cost_left_of_all(transactions: &[Transaction], replica: ReplicaIndex) -> u32
+    requires { sum_by (λ x. cost_left (transaction_of x) replica.number) transactions.now < 2 ^ 32 }
+    ensures { result ≡ sum_by (λ x. cost_left (transaction_of x) replica.number) transactions.now }
+{
+    transactions
+        .iter()
+        .map(|transaction| transaction.cost_left(replica))
+        .sum()
+}
+
 impl<R: Replicas> Cluster<R> {
-    // What waits at the replica, by its cost: 16 transactions at most, of 850 at most.
+    // What waits at the replica, by its cost.
     fn load(&self, replica: ReplicaIndex) -> u32
         ensures { result ≡ load_of (state_of R.Replicas.catalogues self.now) replica.number }
     {
-        let mut total = 0;
-        for transaction in self.unfinished.iter() {
-            total += transaction.cost_left(replica);
-        }
-        total
+        cost_left_of_all(self.unfinished.as_slice(), replica)
     }
 
     // Whether less waits at the replica than at the other.
@@ -35,12 +43,12 @@ impl<R: Replicas> Cluster<R> {
     fn better(
         &self,
         transaction: &Transaction,
-        table: u32,
+        table: Table,
         replica: ReplicaIndex,
         best: Option<ReplicaIndex>,
     ) -> Option<ReplicaIndex>
-        requires { (table < 8) × (replica.number < length (R.Replicas.catalogues self.now.replicas)) }
-        ensures { number_of result ≡ better_of (fits (state_of R.Replicas.catalogues self.now) (transaction_of transaction.now) table) (load_of (state_of R.Replicas.catalogues self.now)) replica.number (number_of best) }
+        requires { replica.number < length (R.Replicas.catalogues self.now.replicas) }
+        ensures { number_of result ≡ better_of (fits (state_of R.Replicas.catalogues self.now) (transaction_of transaction.now) table.number) (load_of (state_of R.Replicas.catalogues self.now)) replica.number (number_of best) }
     {
         if !transaction.qualifies(table, replica, &self.versions[replica.number as usize]) {
             return best;
@@ -52,9 +60,8 @@ impl<R: Replicas> Cluster<R> {
     }
 
     // The replica that answers its read of the table: of those that qualify the least loaded, of equals the lowest.
-    fn choose(&self, transaction: &Transaction, table: u32) -> Option<ReplicaIndex>
-        requires { table < 8 }
-        ensures { number_of result ≡ choice (state_of R.Replicas.catalogues self.now) (transaction_of transaction.now) table }
+    fn choose(&self, transaction: &Transaction, table: Table) -> Option<ReplicaIndex>
+        ensures { number_of result ≡ choice (state_of R.Replicas.catalogues self.now) (transaction_of transaction.now) table.number }
     {
         let mut best = None;
         for replica in 0..self.replicas.count() {
@@ -79,7 +86,7 @@ impl<R: Replicas> Cluster<R> {
             return Err(Refusal::NotOpen);
         };
         let transaction = &self.unfinished[i];
-        transaction.may_read(table, row)?;
+        let table = transaction.may_read(table, row)?;
         self.choose(transaction, table)
             .ok_or(Refusal::NoReplicaQualifies)
     }

@@ -1,6 +1,6 @@
 // What a transaction may ask, and how it asks.
-ghost use Rattle.std.specs.Prelude.{◌≡◌, ◌<◌, ◌&&◌};
-ghost use Rattle.catalogue.specs.Refusals.{told, first, unless_refused};
+ghost use Rattle.std.specs.Prelude.{◌≡◌, ◌&&◌, IfOk};
+ghost use Rattle.catalogue.specs.Refusals.{told, told_as, first, unless_refused};
 ghost use Rattle.versioning.specs.Words.{mode, writes, released};
 ghost use Rattle.versioning.specs.Machine.{may_write, may_release, may_abort, past_recall};
 ghost use Rattle.cluster.specs.Transactions.{course_of, transaction_of, begun_as, may_ask_reply, asked_after, may_read_reply};
@@ -10,7 +10,7 @@ use super::progress::Progress;
 use super::{Phase, Transaction};
 use arrayvec::ArrayVec;
 use catalogue::refusal::Refusal;
-use catalogue::row::{TABLES, place_of};
+use catalogue::table::Table;
 use sequencing::mode::Mode;
 use sequencing::sequencer::Begun;
 use versioning::operation::Operation;
@@ -39,28 +39,31 @@ impl Transaction {
         }
     }
 
-    // Whether it may read there, as far as it alone decides.
-    pub(crate) fn may_read(&self, table: u32, row: u32) -> Result<(), Refusal>
-        ensures { told result ≡ may_read_reply (transaction_of self.now) table row }
+    // The table, if it may read there, as far as it alone decides.
+    pub(crate) fn may_read(&self, table: u32, row: u32) -> Result<Table, Refusal>
+        ensures answer { told_as (λ _. tt) result ≡ may_read_reply (transaction_of self.now) table row }
+        ensures found { IfOk result (λ found. found.number ≡ table) }
     {
         if let Phase::Ended = self.phase {
             return Err(Refusal::NotOpen);
         }
-        place_of(table, row)?;
+        let table = Table::new(table)?;
+        table.place(row)?;
         if !self.declares(table) {
             return Err(Refusal::NotDeclared);
         }
         if self.has_asked_release(table) {
             return Err(Refusal::AlreadyReleased);
         }
-        Ok(())
+        Ok(table)
     }
 
     fn may_write(&self, table: u32, row: u32, class: u32) -> Result<(), Refusal>
         requires { self.now.phase ≡ Phase.Open }
         ensures { told result ≡ unless_refused (first (may_write (course_of self.now) table row class)) tt }
     {
-        place_of(table, row)?;
+        let table = Table::new(table)?;
+        table.place(row)?;
         if class >= CLASSES {
             return Err(Refusal::ClassOutOfRange);
         }
@@ -80,9 +83,7 @@ impl Transaction {
         requires { self.now.phase ≡ Phase.Open }
         ensures { told result ≡ unless_refused (first (may_release (course_of self.now) table)) tt }
     {
-        if table >= TABLES {
-            return Err(Refusal::TableOutOfRange);
-        }
+        let table = Table::new(table)?;
         if !self.declares(table) {
             return Err(Refusal::NotDeclared);
         }
@@ -92,9 +93,8 @@ impl Transaction {
         Ok(())
     }
 
-    fn has_released_for_writing(&self, table: u32) -> bool
-        requires { table < 8 }
-        ensures { result ≡ (writes (mode (course_of self.now) table) && released table (course_of self.now).asked) }
+    fn has_released_for_writing(&self, table: Table) -> bool
+        ensures { result ≡ (writes (mode (course_of self.now) table.number) && released table.number (course_of self.now).asked) }
     {
         self.writes(table) && self.has_asked_release(table)
     }
@@ -103,12 +103,9 @@ impl Transaction {
     fn is_past_recall(&self) -> bool
         ensures { result ≡ past_recall (course_of self.now) }
     {
-        for table in 0..TABLES {
-            if self.has_released_for_writing(table) {
-                return true;
-            }
-        }
-        false
+        Table::all()
+            .iter()
+            .any(|table| self.has_released_for_writing(*table))
     }
 
     fn may_abort(&self) -> Result<(), Refusal>

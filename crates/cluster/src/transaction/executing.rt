@@ -4,7 +4,7 @@ ghost use Rattle.catalogue.specs.Rows.{blank, place};
 ghost use Rattle.catalogue.specs.Replicated.{catalogue_of};
 ghost use Rattle.sequencing.specs.Modes.{tables};
 ghost use Rattle.versioning.specs.Words.{waits as waits_at, next as next_at, done, has_table, is_write as is_write_of};
-ghost use Rattle.versioning.specs.Machine.{undo, rows_after, version_after};
+ghost use Rattle.versioning.specs.Machine.{undo, rows_after, version_after as version_after_at};
 ghost use Rattle.cluster.specs.Orderly.{executed_at};
 ghost use Rattle.cluster.specs.Transactions.{course_of, transaction_of, replaced_by, executed_after};
 ghost use Rattle.cluster.specs.Executing.{InRange, replaced_row, newest_replaced, advanced};
@@ -13,7 +13,8 @@ use super::operations::{cost, is_write};
 use super::{BLANK, Transaction};
 use crate::replica_index::ReplicaIndex;
 use catalogue::replicas::Replicas;
-use catalogue::row::{Row, TABLES};
+use catalogue::row::Row;
+use catalogue::table::Table;
 use versioning::operation::Operation;
 
 // Puts the value there, and answers the row that it replaces.
@@ -99,23 +100,35 @@ impl Transaction {
     }
 
     // Whether its next operation at the replica lets go of the table.
-    fn lets_go_of(&self, replica: ReplicaIndex, table: u32) -> bool
-        requires { (table < 8) × (waits_at (course_of self.now) replica.number ≡ true) }
-        ensures { result ≡ (not (is_write_of (next_at (course_of self.now) replica.number)) && has_table (course_of self.now) (done (course_of self.now) replica.number) (next_at (course_of self.now) replica.number) table) }
+    fn lets_go_of(&self, replica: ReplicaIndex, table: Table) -> bool
+        requires { waits_at (course_of self.now) replica.number ≡ true }
+        ensures { result ≡ (not (is_write_of (next_at (course_of self.now) replica.number)) && has_table (course_of self.now) (done (course_of self.now) replica.number) (next_at (course_of self.now) replica.number) table.number) }
     {
         !is_write(self.next(replica)) && self.next_has_table(replica, table)
+    }
+
+    // The table's version after its next operation at the replica: one more where that lets go of the table.
+    fn version_after(&self, replica: ReplicaIndex, table: Table, version: u32) -> u32
+        requires waits { waits_at (course_of self.now) replica.number ≡ true }
+        requires room { is_write_of (next_at (course_of self.now) replica.number) ≡ false → has_table (course_of self.now) (done (course_of self.now) replica.number) (next_at (course_of self.now) replica.number) table.number ≡ true → version + 1 < 2 ^ 32 }
+        ensures { result ≡ version_after_at (course_of self.now) replica.number table.number version }
+    {
+        if self.lets_go_of(replica, table) {
+            version + 1
+        } else {
+            version
+        }
     }
 
     // Adds one to the version of each table that its next operation lets go of.
     fn let_go(&self, replica: ReplicaIndex, versions: &mut [u32; 8])
         requires place { waits_at (course_of self.now) replica.number ≡ true }
         requires room { (t : ℕ) → is_write_of (next_at (course_of self.now) replica.number) ≡ false → has_table (course_of self.now) (done (course_of self.now) replica.number) (next_at (course_of self.now) replica.number) t ≡ true → slice_index versions.old t + 1 < 2 ^ 32 }
-        ensures { versions.new ≡ tables (λ t. version_after (course_of self.now) replica.number t (slice_index versions.old t)) }
+        ensures { versions.new ≡ tables (λ t. version_after_at (course_of self.now) replica.number t (slice_index versions.old t)) }
     {
-        for table in 0..TABLES {
-            if self.lets_go_of(replica, table) {
-                versions[table as usize] += 1;
-            }
+        for table in Table::all() {
+            let t = table.index();
+            versions[t] = self.version_after(replica, table, versions[t]);
         }
     }
 
@@ -139,7 +152,7 @@ impl Transaction {
         requires room { (t : ℕ) → is_write_of (next_at (transaction_of self.old).course replica.number) ≡ false → has_table (transaction_of self.old).course (done (transaction_of self.old).course replica.number) (next_at (transaction_of self.old).course replica.number) t ≡ true → slice_index versions.old t + 1 < 2 ^ 32 }
         ensures rows { R.Replicas.catalogues replicas.new ≡ slice_set (R.Replicas.catalogues replicas.old) replica.number (rows_after (next_at (transaction_of self.old).course replica.number) ((transaction_of self.old).replaced replica.number) (catalogue_of (R.Replicas.catalogues replicas.old) replica.number)) }
         ensures kept { R.Replicas.lents replicas.new ≡ R.Replicas.lents replicas.old }
-        ensures versions { versions.new ≡ tables (λ t. version_after (transaction_of self.old).course replica.number t (slice_index versions.old t)) }
+        ensures versions { versions.new ≡ tables (λ t. version_after_at (transaction_of self.old).course replica.number t (slice_index versions.old t)) }
         ensures after { transaction_of self.new ≡ executed_after (transaction_of self.old) replica.number (catalogue_of (R.Replicas.catalogues replicas.old) replica.number) }
     {
         let old = self.perform(replicas, replica);

@@ -4,6 +4,7 @@ ghost use Rattle.sequencing.specs.Modes.{some};
 ghost use Rattle.versioning.specs.Words.{is_release, is_write as is_write_of, is_write_at, released, count_writes as count_writes_of};
 ghost use Rattle.versioning.specs.Machine.{cost as cost_of};
 
+use catalogue::table::Table;
 use versioning::operation::Operation;
 
 // A write's classes, and what it costs by its class.
@@ -20,32 +21,32 @@ pub(super) fn is_write(operation: Operation) -> bool
     }
 }
 
-fn writes_to(operation: Operation, table: u32) -> bool
-    ensures { result ≡ is_write_at table operation }
+fn writes_to(operation: Operation, table: Table) -> bool
+    ensures { result ≡ is_write_at table.number operation }
 {
     match operation {
-        Operation::Write { table: written, .. } => table == written,
+        Operation::Write { table: written, .. } => table.number() == written,
         Operation::Release { .. } | Operation::Commit | Operation::Abort => false,
     }
 }
 
-fn releases(operation: Operation, table: u32) -> bool
-    ensures { result ≡ is_release table operation }
+fn releases(operation: Operation, table: Table) -> bool
+    ensures { result ≡ is_release table.number operation }
 {
     match operation {
-        Operation::Release { table: released } => table == released,
+        Operation::Release { table: released } => table.number() == released,
         Operation::Write { .. } | Operation::Commit | Operation::Abort => false,
     }
 }
 
-pub(super) fn any_writes_to(operations: &[Operation], table: u32) -> bool
-    ensures { result ≡ some (is_write_at table) operations.now }
+pub(super) fn any_writes_to(operations: &[Operation], table: Table) -> bool
+    ensures { result ≡ some (is_write_at table.number) operations.now }
 {
     operations.iter().any(|o| writes_to(*o, table))
 }
 
-pub(super) fn any_releases(operations: &[Operation], table: u32) -> bool
-    ensures { result ≡ released table operations.now }
+pub(super) fn any_releases(operations: &[Operation], table: Table) -> bool
+    ensures { result ≡ released table.number operations.now }
 {
     operations.iter().any(|o| releases(*o, table))
 }

@@ -14,7 +14,7 @@ use super::progress::Progress;
 use super::{Phase, Transaction};
 use crate::replica_index::ReplicaIndex;
 use catalogue::refusal::Refusal;
-use catalogue::row::TABLES;
+use catalogue::table::Table;
 use sequencing::sequencer::Assigned;
 use versioning::operation::Operation;
 
@@ -77,31 +77,31 @@ impl Transaction {
     }
 
     // Whether the replica has executed its release of the table.
-    fn has_released(&self, replica: ReplicaIndex, table: u32) -> bool
-        ensures { result ≡ released table (done (course_of self.now) replica.number) }
+    fn has_released(&self, replica: ReplicaIndex, table: Table) -> bool
+        ensures { result ≡ released table.number (done (course_of self.now) replica.number) }
     {
         self.releases_within(self.executed(replica), table)
     }
 
     // Whether the table is one of the next operation's at the replica.
-    pub(super) fn next_has_table(&self, replica: ReplicaIndex, table: u32) -> bool
-        requires { (table < 8) × (waits_at (course_of self.now) replica.number ≡ true) }
-        ensures { result ≡ has_table (course_of self.now) (done (course_of self.now) replica.number) (next_at (course_of self.now) replica.number) table }
+    pub(super) fn next_has_table(&self, replica: ReplicaIndex, table: Table) -> bool
+        requires { waits_at (course_of self.now) replica.number ≡ true }
+        ensures { result ≡ has_table (course_of self.now) (done (course_of self.now) replica.number) (next_at (course_of self.now) replica.number) table.number }
     {
         match self.next(replica) {
-            Operation::Write { table: written, .. } => table == written,
-            Operation::Release { table: released } => table == released,
+            Operation::Write { table: written, .. } => table.number() == written,
+            Operation::Release { table: released } => table.number() == released,
             Operation::Commit | Operation::Abort => self.declares(table)
                 && !self.has_released(replica, table),
         }
     }
 
     // Whether the table, at this version, holds the next operation back at the replica.
-    fn is_held_by(&self, replica: ReplicaIndex, table: u32, version: u32) -> bool
-        requires { (table < 8) × (waits_at (course_of self.now) replica.number ≡ true) }
-        ensures { result ≡ (has_table (course_of self.now) (done (course_of self.now) replica.number) (next_at (course_of self.now) replica.number) table && not (admits_of (slice_index_or self.now.assigned table AssignedOf.None) version)) }
+    fn is_held_by(&self, replica: ReplicaIndex, table: Table, version: u32) -> bool
+        requires { waits_at (course_of self.now) replica.number ≡ true }
+        ensures { result ≡ (has_table (course_of self.now) (done (course_of self.now) replica.number) (next_at (course_of self.now) replica.number) table.number && not (admits_of (slice_index_or self.now.assigned table.number AssignedOf.None) version)) }
     {
-        self.next_has_table(replica, table) && !admits(self.assigned[table as usize], version)
+        self.next_has_table(replica, table) && !admits(self.assigned[table.index()], version)
     }
 
     // Whether its next operation is held back at the replica, where the tables have these versions.
@@ -109,12 +109,9 @@ impl Transaction {
         requires { (waits_at (transaction_of self.now).course replica.number ≡ true) }
         ensures { result ≡ held_at (transaction_of self.now) replica.number versions.now }
     {
-        for table in 0..TABLES {
-            if self.is_held_by(replica, table, versions[table as usize]) {
-                return true;
-            }
-        }
-        false
+        Table::all()
+            .iter()
+            .any(|table| self.is_held_by(replica, *table, versions[table.index()]))
     }
 
     // Whether its next operation may be executed at the replica, as far as it alone decides.
@@ -139,11 +136,10 @@ impl Transaction {
     }
 
     // Whether the replica can answer its read of the table.
-    pub(crate) fn qualifies(&self, table: u32, replica: ReplicaIndex, versions: &[u32; 8]) -> bool
-        requires { table < 8 }
-        ensures { result ≡ qualifies_at (transaction_of self.now) table replica.number versions.now }
+    pub(crate) fn qualifies(&self, table: Table, replica: ReplicaIndex, versions: &[u32; 8]) -> bool
+        ensures { result ≡ qualifies_at (transaction_of self.now) table.number replica.number versions.now }
     {
-        let t = table as usize;
+        let t = table.index();
         admits(self.assigned[t], versions[t])
             && !(self.writes(table) && any_writes_to(self.waiting(replica), table))
     }
@@ -164,8 +160,8 @@ impl Transaction {
         if let Phase::Open = self.phase {
             return false;
         }
-        for replica in 0..replicas {
-            if self.waits(ReplicaIndex { number: replica }) {
+        for number in 0..replicas {
+            if self.waits(ReplicaIndex { number }) {
                 return false;
             }
         }

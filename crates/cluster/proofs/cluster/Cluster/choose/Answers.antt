@@ -10,7 +10,7 @@ pub loop-replica-preserved : goal.loop-replica-preserved
 loop-replica-preserved g c =
     let st = state_of g.R.Replicas.catalogues c.args.self.now in
     let x = transaction_of c.args.transaction.now in
-    let f = fits st x c.args.table in
+    let f = fits st x c.args.table.number in
     let j = c.loop-replica.replica in
     c.better-best.ensures ∙ ap (better f (load st) j) c.loop-replica.invariant ∙ sym (least_more f (load st) j)
 
@@ -19,6 +19,6 @@ returns g c =
     let s = c.args.self.now in
     let st = state_of g.R.Replicas.catalogues s in
     let x = transaction_of c.args.transaction.now in
-    let f = fits st x c.args.table in
+    let f = fits st x c.args.table.number in
     let all : c.loop-replica.replica ≡ length st.replicas = omega (arith, paired_length (g.R.Replicas.catalogues s.replicas) s.versions) in
     c.loop-replica.invariant ∙ ap (least f (load st)) all

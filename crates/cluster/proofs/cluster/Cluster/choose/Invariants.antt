@@ -6,4 +6,4 @@ use Rattle.cluster.proofs.cluster.Cluster.choose.Given as goal
 
 abbrev pub invariant-loop-replica : goal.invariant-loop-replica
 invariant-loop-replica g l =
-    number_of l.best ≡ least (fits (state_of g.R.Replicas.catalogues l.self) (transaction_of l.transaction) l.table) (load (state_of g.R.Replicas.catalogues l.self)) l.replica
+    number_of l.best ≡ least (fits (state_of g.R.Replicas.catalogues l.self) (transaction_of l.transaction) l.table.number) (load (state_of g.R.Replicas.catalogues l.self)) l.replica

@@ -9,9 +9,9 @@ pub returns-then-waits : goal.returns-then-waits
 returns-then-waits c =
     let x = course_of c.args.self.now in
     let n = c.args.replicas in
-    sym (and_right (ended x.asked) (not (some_below n (waits x))) (not_from_true (some_below n (waits x)) (sym (below_hit (waits x) n c.loop-replica.replica (omega arith) c.if-waits.ensures))))
+    sym (and_right (ended x.asked) (not (some_below n (waits x))) (not_from_true (some_below n (waits x)) (sym (below_hit (waits x) n c.loop-number.number (omega arith) c.if-waits.ensures))))
 
-pub loop-replica-preserved : goal.loop-replica-preserved
-loop-replica-preserved c =
+pub loop-number-preserved : goal.loop-number-preserved
+loop-number-preserved c =
     let x = course_of c.args.self.now in
-    below_more (waits x) c.loop-replica.replica c.loop-replica.invariant c.if-waits.ensures
+    below_more (waits x) c.loop-number.number c.loop-number.invariant c.if-waits.ensures

@@ -1,19 +1,12 @@
-use Rattle.std.proofs.Common.{arith}
-use Rattle.cluster.proofs.Below.{below_hit, below_more, below_all}
+use Rattle.std.proofs.Common.{◌∙◌, rules, tests}
+use Rattle.std.proofs.lemmas.Iterator.{YieldsList-from_slice}
+use Rattle.std.proofs.lemmas.Iterator.Search.{any_from_yields_List}
+use Rattle.cluster.proofs.Below.{tables_some}
 use Rattle.cluster.proofs.Waiting.{held_by}
 use Rattle.cluster.proofs.transaction.Transaction.is_held.Goals as goal
 
-pub returns-then-is_held_by : goal.returns-then-is_held_by
-returns-then-is_held_by c =
-    let x = c.args.self.now in
-    below_hit (held_by x c.args.replica.number c.args.versions.now) 8 c.loop-table.table (omega arith) c.if-is_held_by.ensures
-
-pub loop-table-preserved : goal.loop-table-preserved
-loop-table-preserved c =
-    let x = c.args.self.now in
-    below_more (held_by x c.args.replica.number c.args.versions.now) c.loop-table.table c.loop-table.invariant c.if-is_held_by.ensures
-
 pub returns : goal.returns
 returns c =
-    let x = c.args.self.now in
-    below_all (held_by x c.args.replica.number c.args.versions.now) 8 c.loop-table.table c.loop-table.invariant (omega arith)
+    let held = held_by c.args.self.now c.args.replica.number c.args.versions.now in
+    any_from_yields_List (λ t. held t.number) _ _ c.any.result c.any.ensures.ran (YieldsList-from_slice c.all.result cc) (λ t b q k. search (rules, tests))
+    ∙ tables_some held c.all.result c.all.ensures
