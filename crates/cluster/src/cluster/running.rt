@@ -2,7 +2,7 @@ ghost use Rattle.std.specs.Prelude.{◌≡◌, ◌+◌, ◌≤◌, ◌++◌, map
 ghost use Rattle.catalogue.specs.Replicated.{catalogue_of};
 ghost use Rattle.versioning.specs.Serial.{InSerialOrder};
 ghost use Rattle.catalogue.specs.Refusals.{told};
-ghost use Rattle.versioning.specs.Machine.{reply, after, call_reply, call_after, as_outcome, start, final};
+ghost use Rattle.versioning.specs.Machine.{reply, after, call_reply, call_after, start, final};
 ghost use Rattle.cluster.specs.View.{state_of};
 ghost use Rattle.cluster.specs.Runs.{replies, history};
 
@@ -10,7 +10,7 @@ use super::Cluster;
 use catalogue::refusal::Refusal;
 use catalogue::replicas::Replicas;
 use sequencing::call::Call;
-use std::alloc::Global;
+use std::alloc::{AllocFailed, Global};
 use versioning::family::Family;
 use versioning::request::{Outcome, Request};
 
@@ -22,25 +22,40 @@ impl<R: Replicas> Cluster<R> {
         ensures kept { R.Replicas.lents self.new.replicas ≡ R.Replicas.lents self.old.replicas }
     {
         match call {
-            Call::Begin { modes } => match self.begin(modes) {
-                Ok(number) => Ok(Outcome::Begun { number }),
-                Err(refusal) => Err(refusal),
-            },
+            Call::Begin { modes } => {
+                let number = self.begin(modes)?;
+                Ok(Outcome::Begun { number })
+            }
             Call::Write {
                 number,
                 table,
                 row,
                 value,
                 class,
-            } => accepted(self.write(number, table, row, value, class)),
-            Call::Read { number, table, row } => match self.read(number, table, row) {
-                Ok((row, replica)) => Ok(Outcome::Found { row, replica }),
-                Err(refusal) => Err(refusal),
-            },
-            Call::Release { number, table } => accepted(self.release(number, table)),
-            Call::Commit { number } => accepted(self.commit(number)),
-            Call::Abort { number } => accepted(self.abort(number)),
-            Call::Step { number, replica } => accepted(self.step(number, replica)),
+            } => {
+                self.write(number, table, row, value, class)?;
+                Ok(Outcome::Accepted)
+            }
+            Call::Read { number, table, row } => {
+                let (row, replica) = self.read(number, table, row)?;
+                Ok(Outcome::Found { row, replica })
+            }
+            Call::Release { number, table } => {
+                self.release(number, table)?;
+                Ok(Outcome::Accepted)
+            }
+            Call::Commit { number } => {
+                self.commit(number)?;
+                Ok(Outcome::Accepted)
+            }
+            Call::Abort { number } => {
+                self.abort(number)?;
+                Ok(Outcome::Accepted)
+            }
+            Call::Step { number, replica } => {
+                self.step(number, replica)?;
+                Ok(Outcome::Accepted)
+            }
         }
     }
 
@@ -61,16 +76,19 @@ impl<R: Replicas> Cluster<R> {
                 row,
                 value,
                 class,
-            } => accepted(self.write_as(number, table, row, value, class)),
+            } => {
+                self.write_as(number, table, row, value, class)?;
+                Ok(Outcome::Accepted)
+            }
             Request::ReadAs {
                 number,
                 table,
                 row,
                 kind,
-            } => match self.read_as(number, table, row, kind) {
-                Ok((value, replica)) => Ok(Outcome::Value { value, replica }),
-                Err(refusal) => Err(refusal),
-            },
+            } => {
+                let (value, replica) = self.read_as(number, table, row, kind)?;
+                Ok(Outcome::Value { value, replica })
+            }
         }
     }
 
@@ -96,30 +114,17 @@ impl<R: Replicas> Cluster<R> {
         heap: Global,
         replicas: R,
         requests: &[Request<F, F::Which>],
-    ) -> Result<(Vec<Result<Outcome<F>, Refusal>>, Cluster<R>), R>
-        ensures order { MatchResult result (λ x. InSerialOrder F.Family.packed F.Family.unpacked (catalogue_of (R.Replicas.catalogues replicas) 0) (history requests.now (map told x.0.items)) (R.Replicas.catalogues x.1.replicas)) (λ back. back ≡ replicas) }
+    ) -> Result<(Vec<Result<Outcome<F>, Refusal>>, Cluster<R>), AllocFailed<R>>
+        ensures order { MatchResult result (λ x. InSerialOrder F.Family.packed F.Family.unpacked (catalogue_of (R.Replicas.catalogues replicas) 0) (history requests.now (map told x.0.items)) (R.Replicas.catalogues x.1.replicas)) (λ back. back.value ≡ replicas) }
         ensures answers { IfOk result (λ x. map told x.0.items ≡ replies F.Family.packed F.Family.unpacked (start (length (R.Replicas.catalogues replicas)) (catalogue_of (R.Replicas.catalogues replicas) 0)) requests.now) }
         ensures after { IfOk result (λ x. state_of R.Replicas.catalogues x.1 ≡ final F.Family.packed F.Family.unpacked (start (length (R.Replicas.catalogues replicas)) (catalogue_of (R.Replicas.catalogues replicas) 0)) requests.now) }
         ensures kept { IfOk result (λ x. R.Replicas.lents x.1.replicas ≡ R.Replicas.lents replicas) }
     {
         let Ok(mut answers) = Vec::with_capacity(heap, requests.len()) else {
-            return Err(replicas);
+            return Err(AllocFailed { value: replicas });
         };
-        match Cluster::open(heap, replicas) {
-            Ok(mut cluster) => {
-                cluster.request_all(requests, &mut answers);
-                Ok((answers, cluster))
-            }
-            Err(replicas) => Err(replicas),
-        }
-    }
-}
-
-fn accepted<V>(answer: Result<(), Refusal>) -> Result<Outcome<V>, Refusal>
-    ensures { told result ≡ as_outcome (λ x. Outcome.Accepted) (told answer) }
-{
-    match answer {
-        Ok(()) => Ok(Outcome::Accepted),
-        Err(refusal) => Err(refusal),
+        let mut cluster = Cluster::open(heap, replicas)?;
+        cluster.request_all(requests, &mut answers);
+        Ok((answers, cluster))
     }
 }
