@@ -3,8 +3,8 @@ ghost use Rattle.versioning.specs.Machine.{cost as cost_of};
 ghost use Rattle.versioning.specs.Words.{count_writes, ended as ended_by};
 ghost use Rattle.cluster.specs.Orderly.{orderly, tally, is_ended, executed_at, Priced};
 
-use arrayvec::ArrayVec;
 use crate::transaction::progress::Progress;
+use arrayvec::ArrayVec;
 use catalogue::row::Row;
 use sequencing::mode::Mode;
 use sequencing::sequencer::Assigned;
@@ -12,6 +12,7 @@ use versioning::operation::Operation;
 
 pub mod asking;
 pub mod executing;
+pub mod next;
 pub mod operations;
 pub mod progress;
 pub mod tables;

@@ -71,12 +71,7 @@ impl<R: Replicas> Cluster<R> {
     }
 
     // The replica that answers the read, unless a check refuses it: the answer is what is fetched there.
-    fn replica_to_read(
-        &self,
-        number: u32,
-        table: u32,
-        row: u32,
-    ) -> Result<ReplicaIndex, Refusal>
+    fn replica_to_read(&self, number: u32, table: u32, row: u32) -> Result<ReplicaIndex, Refusal>
         ensures { and_then (told_as (λ r. r.number) result) (fetched (R.Replicas.catalogues self.now.replicas) table row) ≡ read_reply (state_of R.Replicas.catalogues self.now) number table row }
     {
         if number >= self.sequencer.begun() {

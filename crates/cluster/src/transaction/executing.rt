@@ -9,7 +9,8 @@ ghost use Rattle.cluster.specs.Orderly.{executed_at};
 ghost use Rattle.cluster.specs.Transactions.{course_of, transaction_of, replaced_by, executed_after};
 ghost use Rattle.cluster.specs.Executing.{InRange, replaced_row, newest_replaced, advanced};
 
-use super::operations::{cost, is_write};
+use super::next::NextOperation;
+use super::operations::cost;
 use super::{BLANK, Transaction};
 use crate::replica_index::ReplicaIndex;
 use catalogue::replicas::Replicas;
@@ -18,7 +19,13 @@ use catalogue::table::Table;
 use versioning::operation::Operation;
 
 // Puts the value there, and answers the row that it replaces.
-fn overwrite<R: Replicas>(replicas: &mut R, replica: ReplicaIndex, table: u32, row: u32, value: Row) -> Row
+fn overwrite<R: Replicas>(
+    replicas: &mut R,
+    replica: ReplicaIndex,
+    table: u32,
+    row: u32,
+    value: Row,
+) -> Row
     requires { (replica.number < length (R.Replicas.catalogues replicas.old)) × ((table < 8) × (row < 64)) }
     ensures rows { R.Replicas.catalogues replicas.new ≡ slice_set (R.Replicas.catalogues replicas.old) replica.number (slice_set (catalogue_of (R.Replicas.catalogues replicas.old) replica.number) (place table row) value) }
     ensures kept { R.Replicas.lents replicas.new ≡ R.Replicas.lents replicas.old }
@@ -68,7 +75,12 @@ impl Transaction {
     }
 
     // The operation on the rows of the replica; answers the row that it replaces, which is blank for all but a write.
-    fn apply<R: Replicas>(&self, replicas: &mut R, replica: ReplicaIndex, operation: Operation) -> Row
+    pub(crate) fn apply<R: Replicas>(
+        &self,
+        replicas: &mut R,
+        replica: ReplicaIndex,
+        operation: Operation,
+    ) -> Row
         requires { (replica.number < length (R.Replicas.catalogues replicas.old)) × (InRange operation) }
         ensures rows { R.Replicas.catalogues replicas.new ≡ slice_set (R.Replicas.catalogues replicas.old) replica.number (rows_after operation ((transaction_of self.now).replaced replica.number) (catalogue_of (R.Replicas.catalogues replicas.old) replica.number)) }
         ensures kept { R.Replicas.lents replicas.new ≡ R.Replicas.lents replicas.old }
@@ -89,55 +101,16 @@ impl Transaction {
         }
     }
 
-    // Its next operation on the rows of the replica; answers the row that it replaces.
-    fn perform<R: Replicas>(&self, replicas: &mut R, replica: ReplicaIndex) -> Row
-        requires { (replica.number < length (R.Replicas.catalogues replicas.old)) × (waits_at (course_of self.now) replica.number ≡ true) }
-        ensures rows { R.Replicas.catalogues replicas.new ≡ slice_set (R.Replicas.catalogues replicas.old) replica.number (rows_after (next_at (course_of self.now) replica.number) ((transaction_of self.now).replaced replica.number) (catalogue_of (R.Replicas.catalogues replicas.old) replica.number)) }
-        ensures kept { R.Replicas.lents replicas.new ≡ R.Replicas.lents replicas.old }
-        ensures old { result ≡ replaced_row (next_at (course_of self.now) replica.number) (catalogue_of (R.Replicas.catalogues replicas.old) replica.number) }
-    {
-        self.apply(replicas, replica, self.next(replica))
-    }
-
-    // Whether its next operation at the replica lets go of the table.
-    fn lets_go_of(&self, replica: ReplicaIndex, table: Table) -> bool
-        requires { waits_at (course_of self.now) replica.number ≡ true }
-        ensures { result ≡ (not (is_write_of (next_at (course_of self.now) replica.number)) && has_table (course_of self.now) (done (course_of self.now) replica.number) (next_at (course_of self.now) replica.number) table.number) }
-    {
-        !is_write(self.next(replica)) && self.next_has_table(replica, table)
-    }
-
-    // The table's version after its next operation at the replica: one more where that lets go of the table.
-    fn version_after(&self, replica: ReplicaIndex, table: Table, version: u32) -> u32
-        requires waits { waits_at (course_of self.now) replica.number ≡ true }
-        requires room { is_write_of (next_at (course_of self.now) replica.number) ≡ false → has_table (course_of self.now) (done (course_of self.now) replica.number) (next_at (course_of self.now) replica.number) table.number ≡ true → version + 1 < 2 ^ 32 }
-        ensures { result ≡ version_after_at (course_of self.now) replica.number table.number version }
-    {
-        if self.lets_go_of(replica, table) {
-            version + 1
-        } else {
-            version
-        }
-    }
-
-    // Adds one to the version of each table that its next operation lets go of.
-    fn let_go(&self, replica: ReplicaIndex, versions: &mut [u32; 8])
-        requires place { waits_at (course_of self.now) replica.number ≡ true }
-        requires room { (t : ℕ) → is_write_of (next_at (course_of self.now) replica.number) ≡ false → has_table (course_of self.now) (done (course_of self.now) replica.number) (next_at (course_of self.now) replica.number) t ≡ true → slice_index versions.old t + 1 < 2 ^ 32 }
-        ensures { versions.new ≡ tables (λ t. version_after_at (course_of self.now) replica.number t (slice_index versions.old t)) }
-    {
-        for table in Table::all() {
-            let t = table.index();
-            versions[t] = self.version_after(replica, table, versions[t]);
-        }
-    }
-
     // One operation more is executed at the replica, and the row that it replaced there is kept.
     fn advance(&mut self, replica: ReplicaIndex, old: Row)
         requires { waits_at (course_of self.old) replica.number ≡ true }
         ensures { transaction_of self.new ≡ advanced (transaction_of self.old) replica.number old }
     {
-        let price = cost(self.next(replica));
+        let next = NextOperation {
+            transaction: self,
+            replica,
+        };
+        let price = cost(next.operation());
         self.progress[replica.number as usize].record(old, price);
     }
 
@@ -155,8 +128,12 @@ impl Transaction {
         ensures versions { versions.new ≡ tables (λ t. version_after_at (transaction_of self.old).course replica.number t (slice_index versions.old t)) }
         ensures after { transaction_of self.new ≡ executed_after (transaction_of self.old) replica.number (catalogue_of (R.Replicas.catalogues replicas.old) replica.number) }
     {
-        let old = self.perform(replicas, replica);
-        self.let_go(replica, versions);
+        let next = NextOperation {
+            transaction: self,
+            replica,
+        };
+        let old = next.perform(replicas);
+        next.let_go(versions);
         self.advance(replica, old);
     }
 }

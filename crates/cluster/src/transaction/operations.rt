@@ -12,7 +12,7 @@ pub(super) const CLASSES: u32 = 8;
 
 const COSTS: [u32; 8] = [1, 2, 3, 5, 8, 13, 21, 34];
 
-pub(super) fn is_write(operation: Operation) -> bool
+pub(crate) fn is_write(operation: Operation) -> bool
     ensures { result ≡ is_write_of operation }
 {
     match operation {
@@ -39,26 +39,26 @@ fn releases(operation: Operation, table: Table) -> bool
     }
 }
 
-pub(super) fn any_writes_to(operations: &[Operation], table: Table) -> bool
+pub(crate) fn any_writes_to(operations: &[Operation], table: Table) -> bool
     ensures { result ≡ some (is_write_at table.number) operations.now }
 {
     operations.iter().any(|o| writes_to(*o, table))
 }
 
-pub(super) fn any_releases(operations: &[Operation], table: Table) -> bool
+pub(crate) fn any_releases(operations: &[Operation], table: Table) -> bool
     ensures { result ≡ released table.number operations.now }
 {
     operations.iter().any(|o| releases(*o, table))
 }
 
-pub(super) fn count_writes(operations: &[Operation]) -> usize
+pub(crate) fn count_writes(operations: &[Operation]) -> usize
     ensures { result ≡ count_writes_of operations.now }
 {
     operations.iter().filter(|o| is_write(**o)).count()
 }
 
 // A class that is not in the table, which no accepted write has, costs nothing.
-pub(super) fn cost(operation: Operation) -> u32
+pub(crate) fn cost(operation: Operation) -> u32
     ensures is { result ≡ cost_of operation }
     ensures most { result ≤ 34 }
 {

@@ -10,27 +10,27 @@ use catalogue::table::Table;
 use sequencing::mode::Mode;
 
 impl Transaction {
-    pub(super) fn declares(&self, table: Table) -> bool
+    pub(crate) fn declares(&self, table: Table) -> bool
         ensures { result ≡ declares_of (mode (course_of self.now) table.number) }
     {
         self.declared[table.index()].declares()
     }
 
-    pub(super) fn writes(&self, table: Table) -> bool
+    pub(crate) fn writes(&self, table: Table) -> bool
         ensures { result ≡ writes_of (mode (course_of self.now) table.number) }
     {
         matches!(self.declared[table.index()], Mode::Write)
     }
 
     // Whether it asked the release of the table.
-    pub(super) fn has_asked_release(&self, table: Table) -> bool
+    pub(crate) fn has_asked_release(&self, table: Table) -> bool
         ensures { result ≡ released table.number (course_of self.now).asked }
     {
         any_releases(self.asked.as_slice(), table)
     }
 
     // Whether its first operations release the table.
-    pub(super) fn releases_within(&self, first: usize, table: Table) -> bool
+    pub(crate) fn releases_within(&self, first: usize, table: Table) -> bool
         requires { first ≤ length self.now.asked.items }
         ensures { result ≡ released table.number (take first self.now.asked.items) }
     {

@@ -19,7 +19,7 @@ use sequencing::sequencer::Assigned;
 use versioning::operation::Operation;
 
 // Whether a table at the version admits what was assigned there.
-fn admits(assigned: Assigned, version: u32) -> bool
+pub(crate) fn admits(assigned: Assigned, version: u32) -> bool
     ensures { result ≡ admits_of assigned version }
 {
     match assigned {
@@ -37,14 +37,14 @@ impl Transaction {
     }
 
     // How far the replica is with it.
-    pub(super) fn progress(&self, replica: ReplicaIndex) -> &Progress
+    pub(crate) fn progress(&self, replica: ReplicaIndex) -> &Progress
         ensures { result.now ≡ progress_at self.now.progress replica.number }
     {
         &self.progress[replica.number as usize]
     }
 
     // How many of its operations the replica has executed.
-    pub(super) fn executed(&self, replica: ReplicaIndex) -> usize
+    pub(crate) fn executed(&self, replica: ReplicaIndex) -> usize
         ensures is { result ≡ executed_at self.now.progress replica.number }
         ensures within { result ≤ length self.now.asked.items }
     {
@@ -59,7 +59,7 @@ impl Transaction {
     }
 
     // The n-th operation that it asked.
-    pub(super) fn asked_at(&self, n: usize) -> Operation
+    pub(crate) fn asked_at(&self, n: usize) -> Operation
         requires { n < length self.now.asked.items }
         ensures is { result ≡ slice_index_or self.now.asked.items n OperationOf.Commit }
         ensures range { InRange result }
@@ -67,61 +67,16 @@ impl Transaction {
         self.asked[n]
     }
 
-    // The next operation at the replica.
-    pub(super) fn next(&self, replica: ReplicaIndex) -> Operation
-        requires { (waits_at (course_of self.now) replica.number ≡ true) }
-        ensures is { result ≡ next_at (course_of self.now) replica.number }
-        ensures range { InRange result }
-    {
-        self.asked_at(self.executed(replica))
-    }
-
-    // Whether the replica has executed its release of the table.
-    fn has_released(&self, replica: ReplicaIndex, table: Table) -> bool
-        ensures { result ≡ released table.number (done (course_of self.now) replica.number) }
-    {
-        self.releases_within(self.executed(replica), table)
-    }
-
-    // Whether the table is one of the next operation's at the replica.
-    pub(super) fn next_has_table(&self, replica: ReplicaIndex, table: Table) -> bool
-        requires { waits_at (course_of self.now) replica.number ≡ true }
-        ensures { result ≡ has_table (course_of self.now) (done (course_of self.now) replica.number) (next_at (course_of self.now) replica.number) table.number }
-    {
-        match self.next(replica) {
-            Operation::Write { table: written, .. } => table.number() == written,
-            Operation::Release { table: released } => table.number() == released,
-            Operation::Commit | Operation::Abort => self.declares(table)
-                && !self.has_released(replica, table),
-        }
-    }
-
-    // Whether the table, at this version, holds the next operation back at the replica.
-    fn is_held_by(&self, replica: ReplicaIndex, table: Table, version: u32) -> bool
-        requires { waits_at (course_of self.now) replica.number ≡ true }
-        ensures { result ≡ (has_table (course_of self.now) (done (course_of self.now) replica.number) (next_at (course_of self.now) replica.number) table.number && not (admits_of (slice_index_or self.now.assigned table.number AssignedOf.None) version)) }
-    {
-        self.next_has_table(replica, table) && !admits(self.assigned[table.index()], version)
-    }
-
-    // Whether its next operation is held back at the replica, where the tables have these versions.
-    pub(crate) fn is_held(&self, replica: ReplicaIndex, versions: &[u32; 8]) -> bool
-        requires { (waits_at (transaction_of self.now).course replica.number ≡ true) }
-        ensures { result ≡ held_at (transaction_of self.now) replica.number versions.now }
-    {
-        Table::all()
-            .iter()
-            .any(|table| self.is_held_by(replica, *table, versions[table.index()]))
-    }
-
     // Whether its next operation may be executed at the replica, as far as it alone decides.
-    pub(crate) fn may_execute(&self, replica: ReplicaIndex, versions: &[u32; 8]) -> Result<(), Refusal>
+    pub(crate) fn may_execute(
+        &self,
+        replica: ReplicaIndex,
+        versions: &[u32; 8],
+    ) -> Result<(), Refusal>
         ensures { told result ≡ may_execute_reply (transaction_of self.now) replica.number versions.now }
     {
-        if !self.waits(replica) {
-            return Err(Refusal::NothingWaits);
-        }
-        if self.is_held(replica, versions) {
+        let next = self.next(replica).ok_or(Refusal::NothingWaits)?;
+        if next.is_held(versions) {
             return Err(Refusal::HeldBack);
         }
         Ok(())

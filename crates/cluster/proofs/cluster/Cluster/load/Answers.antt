@@ -1,4 +1,4 @@
-use Rattle.std.proofs.Common.{List, vec_items, length, sum_by, ap, ◌∙◌, arith}
+use Rattle.std.proofs.Common.{List, vec_items, sum_by, ap, ◌∙◌, arith}
 use Rattle.versioning.specs.Machine.{cost_left}
 use Rattle.cluster.specs.declared.transaction.Transaction.{Transaction}
 use Rattle.cluster.specs.Transactions.{transaction_of}

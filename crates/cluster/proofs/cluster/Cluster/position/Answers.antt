@@ -1,4 +1,4 @@
-use Rattle.std.proofs.Common.{◌≡◌, List, vec_items, sym, subst, ap, ◌∙◌}
+use Rattle.std.proofs.Common.{List, vec_items, sym, subst, ap, ◌∙◌}
 use Rattle.std.specs.List.{position}
 use Rattle.cluster.specs.declared.transaction.Transaction.{Transaction}
 use Rattle.cluster.specs.Transactions.{transactions_of, Stands}

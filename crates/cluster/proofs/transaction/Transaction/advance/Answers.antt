@@ -30,7 +30,7 @@ invariant_of-self c =
     let there : j < length x.progress = search rules in
     let at = get_or_default x.progress j c.index-self-replica.result (record { replaced = record { items = [] }; cost = 0 }) there in
     let more = c.record.ensures.replaced ∙ ap (λ (q : Progress). q.replaced.items ++ (c.args.old ∷ [])) at in
-    let price : c.cost-price.result ≡ cost (next (course_of x) j) = c.cost-price.ensures.is ∙ ap cost c.next.ensures.is in
+    let price : c.cost-price.result ≡ cost (next (course_of x) j) = c.cost-price.ensures.is ∙ ap cost c.operation.ensures.is in
     record {
       phased = x.phased;
       allowed = x.allowed;
