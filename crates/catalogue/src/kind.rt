@@ -10,6 +10,7 @@ pub mod counter;
 pub mod tape;
 
 // A kind of row: each of its values packs into a row of its own, and a row unpacks to the value that packs into it, or to none.
+// `From` and `TryFrom` have no such laws.
 pub trait Kind: Sized {
     // What holds of every value of the type: its numbers fit.
     ghost sound: { Self → Type 0 };

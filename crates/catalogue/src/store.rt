@@ -7,6 +7,7 @@ use crate::refusal::Refusal;
 use crate::row::Row;
 
 // A store of one catalogue. It may rearrange itself at a fetch, so that takes `&mut self` too.
+// A call takes any two numbers, and refuses those that have no place: a `Place` in their stead would ask more of callers.
 pub trait Store {
     // What it means: the row at each of the 512 places.
     ghost rows: { Self → List RowOf };

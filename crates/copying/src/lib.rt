@@ -1,16 +1,16 @@
 // Copying: the rows of the first replica to every other, as at the opening of a cluster.
 #![tactic(auto)]
 
-ghost use Rattle.std.specs.Prelude.{◌≡◌, ◌<◌, ◌≤◌, length, replicate};
+ghost use Rattle.std.specs.Prelude.{◌≡◌, ◌≤◌, length, replicate};
 ghost use Rattle.catalogue.specs.Replicated.{catalogue_of};
-ghost use Rattle.copying.specs.Copied.{copied_row, copied_rows, CopiedTo};
+ghost use Rattle.copying.specs.Copied.{copied_row, copied_places, copied_rows};
 
 use catalogue::replicas::Replicas;
 use catalogue::row::{ROWS, TABLES};
 
-// The row at the place, which is within a catalogue, from the first replica to another.
+// The row at the place, from the first replica to another; at no place and for no replica nothing is copied.
+#[tactic(auto, using(crate::proofs::Alike::copied_at))]
 fn copy_row<R: Replicas>(replicas: &mut R, to: u32, place: u32)
-    requires { (to < length (R.Replicas.catalogues replicas.old)) × (place < 512) }
     ensures rows { R.Replicas.catalogues replicas.new ≡ copied_row (R.Replicas.catalogues replicas.old) to place }
     ensures kept { R.Replicas.lents replicas.new ≡ R.Replicas.lents replicas.old }
 {
@@ -23,8 +23,7 @@ fn copy_row<R: Replicas>(replicas: &mut R, to: u32, place: u32)
 
 // The rows at the first places, as many as are told.
 fn copy_places<R: Replicas>(replicas: &mut R, to: u32, places: u32)
-    requires { (to < length (R.Replicas.catalogues replicas.old)) × ((0 < to) × (places ≤ 512)) }
-    ensures rows { CopiedTo (R.Replicas.catalogues replicas.old) (R.Replicas.catalogues replicas.new) to places }
+    ensures rows { R.Replicas.catalogues replicas.new ≡ copied_places (R.Replicas.catalogues replicas.old) to places }
     ensures all { 512 ≤ places → R.Replicas.catalogues replicas.new ≡ copied_rows (R.Replicas.catalogues replicas.old) to }
     ensures kept { R.Replicas.lents replicas.new ≡ R.Replicas.lents replicas.old }
 {
@@ -34,7 +33,6 @@ fn copy_places<R: Replicas>(replicas: &mut R, to: u32, places: u32)
 }
 
 fn copy_rows<R: Replicas>(replicas: &mut R, to: u32)
-    requires { (to < length (R.Replicas.catalogues replicas.old)) × (0 < to) }
     ensures rows { R.Replicas.catalogues replicas.new ≡ copied_rows (R.Replicas.catalogues replicas.old) to }
     ensures kept { R.Replicas.lents replicas.new ≡ R.Replicas.lents replicas.old }
 {

@@ -21,17 +21,11 @@ mod tests {
     use stores::memory::Memory;
 
     fn memory(heap: Global, rows: usize) -> Result<Memory, Fail> {
-        match Memory::new(vec![in heap; Row { high: 0, low: 0 }; rows]?) {
-            Ok(memory) => Ok(memory),
-            Err((_refusal, _rows)) => Err(Fail::new("refused")),
-        }
+        Memory::new(vec![in heap; Row::default(); rows]?).map_err(|_| Fail::new("refused"))
     }
 
     fn backwards() -> Result<Numbers, Fail> {
-        match Numbers::new([7, 6, 5, 4, 3, 2, 1, 0]) {
-            Ok(numbers) => Ok(numbers),
-            Err(_refusal) => Err(Fail::new("refused")),
-        }
+        Numbers::new([7, 6, 5, 4, 3, 2, 1, 0]).map_err(|_| Fail::new("refused"))
     }
 
     // The row that is put at a place in a round, another for each.
