@@ -13,10 +13,11 @@ pub enum Field<'a> {
     Word(&'a [u8]),
 }
 
-impl<'a> Field<'a> {
-    pub fn of(text: &'a [u8]) -> Field<'a>
-        ensures { shown result ≡ content_of text.now }
-    {
+// A field is cut from the text that stands between two commas.
+impl<'a> From<&'a [u8]> for Field<'a> {
+    ghost from_gives = { λ text field. shown field ≡ content_of text.now };
+
+    fn from(text: &'a [u8]) -> Field<'a> {
         if text.is_empty() {
             return Field::Empty;
         }
@@ -25,7 +26,9 @@ impl<'a> Field<'a> {
             None => Field::Word(text),
         }
     }
+}
 
+impl<'a> Field<'a> {
     // The bytes that the field was cut from.
     pub fn text(self) -> &'a [u8]
         ensures { result.now ≡ bytes_of (shown self.entry) }

@@ -3,7 +3,7 @@ ghost use Rattle.field.specs.Letters.{mode_of, declaration_of};
 
 use sequencing::mode::Mode;
 
-pub fn mode(letter: u8) -> Option<Mode>
+fn mode(letter: u8) -> Option<Mode>
     ensures { result ≡ mode_of letter }
 {
     match char::from(letter) {

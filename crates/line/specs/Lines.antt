@@ -1,5 +1,5 @@
 -- A line's seven fields, and what the line tells.
-use Rattle.std.specs.Prelude.{ℕ, ◌-◌, cond, List, [], ◌∷◌, map, length, is_some, Some, None, Ok, Err, Result, ◌==◌, slice_index_or}
+use Rattle.std.specs.Prelude.{ℕ, ◌-◌, cond, List, [], ◌∷◌, map, length, is_some, Some, Ok, Err, Result, ◌==◌, slice_index_or}
 use Rattle.catalogue.specs.declared.refusal.Refusal.{Refusal}
 use Rattle.line.specs.declared.column.Column.{Column}
 use Rattle.line.specs.declared.fields.Fields.{Fields}
@@ -33,10 +33,6 @@ lowest_used f (c ∷ cs) = cond (is_some (nothing_in (in_column f c))) (lowest_u
 -- The refusal of a field that breaks its rule.
 abbrev pub bad_field : ℕ → Column → SheetRefusal
 bad_field line column = record { refusal = Refusal.BadField; line = line; column = Some column }
-
--- The refusal of a whole line.
-abbrev pub bad_line : ℕ → SheetRefusal
-bad_line line = record { refusal = Refusal.BadLine; line = line; column = None }
 
 -- What a line cut into fields tells: its number and its seven fields.
 abbrev pub told_fields : Result Fields SheetRefusal → Told (ℕ × List Content)

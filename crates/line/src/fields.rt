@@ -1,11 +1,10 @@
-ghost use Rattle.std.specs.Prelude.{◌≡◌, ◌≤◌, [], ◌∷◌, length, Some, None, Ok, Err};
-ghost use Rattle.field.specs.Pieces.{pieces};
+ghost use Rattle.std.specs.Prelude.{◌≡◌, ◌==◌, false, length, Some, None, Ok, Err};
 ghost use Rattle.field.specs.Fields.{shown};
 ghost use Rattle.line.specs.declared.column.Column.{Column};
 ghost use Rattle.line.specs.Columns.{column_number, columns_from};
 ghost use Rattle.line.specs.Refusals.{told};
 ghost use Rattle.line.specs.Calls.{begin_form, write_form, read_form, release_form, commit_form, abort_form, step_form, form_reply, call_reply};
-ghost use Rattle.line.specs.Lines.{in_column, behind, lowest_used, bad_field, bad_line, told_fields, cut_reply};
+ghost use Rattle.line.specs.Lines.{in_column, behind, all_shown, lowest_used, bad_field, contents_of, told_fields, cut_reply};
 
 use crate::column::Column;
 use crate::refusal::SheetRefusal;
@@ -22,47 +21,31 @@ pub struct Fields<'a> {
     pub fields: [Field<'a>; 7],
 }
 
-// The first field of the text, and what stands behind its comma.
-fn first_field<'a>(line: u32, text: &'a [u8]) -> Result<(&'a [u8], &'a [u8]), SheetRefusal>
-    ensures { elim result [ Ok p ↦ pieces 44 text.now ≡ p.0.now ∷ pieces 44 p.1.now | Err e ↦ (pieces 44 text.now ≡ text.now ∷ []) × (e ≡ bad_line line) ] }
-{
-    split_at_mark(b',', text).ok_or(SheetRefusal::of_line(Refusal::BadLine, line))
-}
-
-// The last field, behind which there is no comma.
-fn last_field<'a>(line: u32, text: &'a [u8]) -> Result<&'a [u8], SheetRefusal>
-    ensures { elim result [ Ok p ↦ pieces 44 text.now ≡ p.now ∷ [] | Err e ↦ (2 ≤ length (pieces 44 text.now)) × (e ≡ bad_line line) ] }
-{
-    match split_at_mark(b',', text) {
-        None => Ok(text),
-        Some(_) => Err(SheetRefusal::of_line(Refusal::BadLine, line)),
-    }
-}
-
 impl<'a> Fields<'a> {
+    // The fields between the text's commas; nothing where there are not seven.
+    fn seven(line: u32, text: &'a [u8]) -> Option<Fields<'a>>
+        ensures { elim result [ Some f ↦ (f.line ≡ line) × (all_shown f ≡ contents_of text.now) | None ↦ (length (contents_of text.now) == 7) ≡ false ] }
+    {
+        let (call, text) = split_at_mark(b',', text)?;
+        let (number, text) = split_at_mark(b',', text)?;
+        let (place, text) = split_at_mark(b',', text)?;
+        let (row, text) = split_at_mark(b',', text)?;
+        let (high, text) = split_at_mark(b',', text)?;
+        let (low, class) = split_at_mark(b',', text)?;
+        match split_at_mark(b',', class) {
+            Some(_) => None,
+            None => Some(Fields {
+                line,
+                fields: [call, number, place, row, high, low, class].map(Field::from),
+            }),
+        }
+    }
+
     // Cuts the line's text, which is without its line feed, into its fields.
     pub fn cut(line: u32, text: &'a [u8]) -> Result<Fields<'a>, SheetRefusal>
         ensures { told_fields result ≡ cut_reply line text.now }
     {
-        let (call, text) = first_field(line, text)?;
-        let (number, text) = first_field(line, text)?;
-        let (place, text) = first_field(line, text)?;
-        let (row, text) = first_field(line, text)?;
-        let (high, text) = first_field(line, text)?;
-        let (low, text) = first_field(line, text)?;
-        let class = last_field(line, text)?;
-        Ok(Fields {
-            line,
-            fields: [
-                Field::of(call),
-                Field::of(number),
-                Field::of(place),
-                Field::of(row),
-                Field::of(high),
-                Field::of(low),
-                Field::of(class),
-            ],
-        })
+        Fields::seven(line, text).ok_or(SheetRefusal::of_line(Refusal::BadLine, line))
     }
 
     fn at(&self, column: Column) -> Field<'a>

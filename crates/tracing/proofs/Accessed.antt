@@ -11,7 +11,7 @@ use Rattle.tracing.specs.declared.trace.Traced.{Traced}
 use Rattle.tracing.specs.declared.trace.Stop.{Stop}
 use Rattle.sequencing.specs.Modes.{declares}
 use Rattle.sequencing.specs.Sequencer.{Counts, assigned, moved_on, next_at, all_moved_on, begin_refusal, begin_after}
-use Rattle.tracing.specs.Trace.{letter_of, only, access_reply, counters, traced, preceded, trace_of, through_last_write}
+use Rattle.tracing.specs.Trace.{letter_of, only, access_reply, counters, traced, preceded, trace_of, through_last_write, Steps, Stops}
 
 -- the accesses of which the trace is already told, before the rest of it
 abbrev pub joined : List Traced → List Traced × Stop → List Traced × Stop
@@ -72,11 +72,11 @@ module _ {earlier : List Mode} {counts : Counts} {accesses : List Traced} {line 
       ∙ ap (λ (left : List ℕ). joined accesses (trace_of earlier left)) (sym (drop_more line i 0 l))
       ∙ a.rest
 
-  pub position : (n : ℕ) → n ≡ length accesses → n + 1 ≡ length earlier + 1
+  position : (n : ℕ) → n ≡ length accesses → n + 1 ≡ length earlier + 1
   position n e = omega (arith, a.many)
 
   -- a byte that ends the trace
-  pub ends : (x : Letter) (s : Stop) → x ≡ letter_of b → by earlier b bs x ≡ ([], s) → (accesses, s) ≡ trace_of [] line
+  ends : (x : Letter) (s : Stop) → x ≡ letter_of b → by earlier b bs x ≡ ([], s) → (accesses, s) ≡ trace_of [] line
   ends x s e h = ap (λ (xs : List Traced). (xs, s)) (sym (append-nil accesses)) ∙ ap (joined accesses) (sym h) ∙ rest_by x (sym e)
 
   module _ (m : Mode) (e : Letter.Access m ≡ letter_of b) where
@@ -94,7 +94,7 @@ module _ {earlier : List Mode} {counts : Counts} {accesses : List Traced} {line 
         ∙ ap (unless_refused (checked (ltb (length earlier) 1000000))) value_here
 
     -- an access that is refused
-    pub refused : (r : Refusal) (n : ℕ) → n ≡ length accesses → (number r, None) ≡ access_reply counts m → (accesses, Stop.Refused (n + 1) r) ≡ trace_of [] line
+    refused : (r : Refusal) (n : ℕ) → n ≡ length accesses → (number r, None) ≡ access_reply counts m → (accesses, Stop.Refused (n + 1) r) ≡ trace_of [] line
     unfolding checked
     refused r n many told =
         ap (λ k. (accesses, Stop.Refused k r)) (position n many) ∙ go (ltb (length earlier) 1000000) refl (told ∙ reply_here)
@@ -124,7 +124,7 @@ module _ {earlier : List Mode} {counts : Counts} {accesses : List Traced} {line 
           ap (λ n. cond (eqb n 0) (record { begun = counts.begun + 1; next = all_moved_on (only m) counts.next }) counts)
           (refusal_here ∙ ap checked room)
 
-      pub accepted : (counts' : Counts) (accesses' : List Traced) → counts' ≡ begin_after counts (only m) → accesses' ≡ accesses ++ x ∷ [] → After (m ∷ earlier) counts' accesses' line bs
+      accepted : (counts' : Counts) (accesses' : List Traced) → counts' ≡ begin_after counts (only m) → accesses' ≡ accesses ++ x ∷ [] → After (m ∷ earlier) counts' accesses' line bs
       accepted counts' accesses' later pushed =
           record {
             next = ap (λ (c : Counts). next_at c.next 0) (later ∙ accepted_after) ∙ ap (moved_on m) a.next ∙ counters_more m earlier (declared b m (sym e));
@@ -137,3 +137,15 @@ module _ {earlier : List Mode} {counts : Counts} {accesses : List Traced} {line 
                 ∙ ap (λ (v : Bool). joined accesses (cond v (preceded (traced m earlier) (trace_of (m ∷ earlier) bs)) ([], Stop.Refused (length earlier + 1) Refusal.TooManyBegun))) (sym room)
                 ∙ rest_by (Letter.Access m) (sym e);
           }
+
+  -- a byte at which the trace ends
+  pub stopped : (n : ℕ) (s : Stop) → n ≡ length accesses → Stops counts b (n + 1) s → (accesses, s) ≡ trace_of [] line
+  stopped n Stop.LineEnd many e = ends Letter.LineEnd Stop.LineEnd (sym e) refl
+  stopped n (Stop.Unknown q d) many (e, at, byte) =
+      ends Letter.Unknown (Stop.Unknown q d) (sym e) (cc (at ∙ position n many))
+  stopped n (Stop.Refused q r) many (m, e, at, told) =
+      ap (λ k. (accesses, Stop.Refused k r)) at ∙ refused m (sym e) r n many told
+
+  -- a byte that is an access
+  pub stepped : (x : Traced) (counts' : Counts) (accesses' : List Traced) (s : Steps counts b x counts') → accesses' ≡ accesses ++ x ∷ [] → After (s.mode ∷ earlier) counts' accesses' line bs
+  stepped x counts' accesses' s pushed = accepted s.mode (sym s.letter) x s.answer counts' accesses' s.moved pushed

@@ -1,5 +1,5 @@
 -- The accesses to one table, in order of beginning: what each is assigned, told without the sequencer.
-use Rattle.std.specs.Prelude.{ℕ, ◌+◌, cond, List, [], ◌∷◌, ◌++◌, length, codes, decimal, Option, ◌==◌, nat_lt}
+use Rattle.std.specs.Prelude.{◌≡◌, ℕ, ◌+◌, cond, List, [], ◌∷◌, ◌++◌, length, codes, decimal, Some, None, Option, ◌==◌, nat_lt}
 use Rattle.catalogue.specs.declared.refusal.Refusal.{Refusal}
 use Rattle.catalogue.specs.Refusals.{number, unless_refused}
 use Rattle.sequencing.specs.declared.mode.Mode.{Mode}
@@ -8,7 +8,7 @@ use Rattle.sequencing.specs.declared.sequencer.Assigned.{Assigned}
 use Rattle.tracing.specs.declared.trace.Letter.{Letter}
 use Rattle.tracing.specs.declared.trace.Traced.{Traced}
 use Rattle.tracing.specs.declared.trace.Stop.{Stop}
-use Rattle.sequencing.specs.Sequencer.{Counts, assigned, moved_on, next_at, begin_refusal}
+use Rattle.sequencing.specs.Sequencer.{Counts, assigned, moved_on, next_at, begin_refusal, begin_after}
 
 -- The letter r stands for an access that reads, w for one that writes; a line feed ends the line.
 abbrev pub letter_of : ℕ → Letter
@@ -22,6 +22,19 @@ only m = m ∷ Mode.None ∷ Mode.None ∷ Mode.None ∷ Mode.None ∷ Mode.None
 abbrev pub access_reply : Counts → Mode → ℕ × Option Traced
 access_reply c m =
     unless_refused (begin_refusal c (only m)) (record { assigned = assigned m (next_at c.next 0); next = moved_on m (next_at c.next 0) })
+
+-- A byte that is an access is traced as the sequencer answers, which then stands after it.
+pub record Steps (c : Counts) (b : ℕ) (x : Traced) (after : Counts) : Type 0 where
+  pub mode : Mode
+  pub letter : letter_of b ≡ Letter.Access mode
+  pub answer : (0, Some x) ≡ access_reply c mode
+  pub moved : after ≡ begin_after c (only mode)
+
+-- A byte at which the trace ends, with its position: a line feed, a byte that is no access, or an access that the sequencer refuses.
+abbrev pub Stops : Counts → ℕ → ℕ → Stop → Type 0
+Stops c b p Stop.LineEnd = letter_of b ≡ Letter.LineEnd
+Stops c b p (Stop.Unknown q d) = (letter_of b ≡ Letter.Unknown) × (q ≡ p) × (d ≡ b)
+Stops c b p (Stop.Refused q r) = (m : Mode) × (letter_of b ≡ Letter.Access m) × (q ≡ p) × ((number r, None) ≡ access_reply c m)
 
 -- How many accesses came up to the latest write, which is counted too; the newest access stands first.
 abbrev pub through_last_write : List Mode → ℕ

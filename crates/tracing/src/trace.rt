@@ -1,8 +1,8 @@
 // The accesses to one table, as a line of letters, and what the sequencer assigns to each.
-ghost use Rattle.std.specs.Prelude.{◌≡◌, [], IfOk, Some};
+ghost use Rattle.std.specs.Prelude.{◌≡◌, [], IfOk, Ok, Err, Some};
 ghost use Rattle.catalogue.specs.Refusals.{told};
 ghost use Rattle.sequencing.specs.Sequencer.{counts_of, begin_after};
-ghost use Rattle.tracing.specs.Trace.{letter_of, only, access_reply, trace_of, traced_text, stop_text};
+ghost use Rattle.tracing.specs.Trace.{letter_of, only, access_reply, Steps, Stops, trace_of, traced_text, stop_text};
 
 use catalogue::refusal::Refusal;
 use sequencing::mode::Mode;
@@ -10,7 +10,7 @@ use sequencing::sequencer::{Assigned, Next, Sequencer};
 use std::alloc::{AllocError, Global};
 use std::fmt;
 
-// What a byte of the line stands for.
+// What a byte of the line stands for. Not an Option of an access: a line feed and an unknown byte end a trace differently.
 #[derive(Clone, Copy)]
 pub enum Letter {
     Access(Mode),
@@ -26,6 +26,7 @@ pub struct Traced {
 }
 
 // Why a trace ended: the line did, or a byte is no access, or the sequencer refused one. Positions count from 1.
+// Not an Option of two faults: the end of the line is shown by a text too.
 #[derive(Clone, Copy)]
 pub enum Stop {
     LineEnd,
@@ -39,10 +40,10 @@ pub struct Trace {
     pub stop: Stop,
 }
 
-impl Letter {
-    fn of(byte: u8) -> Letter
-        ensures { result ≡ letter_of byte }
-    {
+impl From<u8> for Letter {
+    ghost from_gives = { λ b l. l ≡ letter_of b };
+
+    fn from(byte: u8) -> Letter {
         match char::from(byte) {
             'r' => Letter::Access(Mode::Read),
             'w' => Letter::Access(Mode::Write),
@@ -67,6 +68,19 @@ fn access(sequencer: &mut Sequencer, mode: Mode) -> Result<Traced, Refusal>
     })
 }
 
+// The access that a byte stands for, or why the trace ends at it.
+fn step(sequencer: &mut Sequencer, position: usize, byte: u8) -> Result<Traced, Stop>
+    ensures { elim result [ Ok traced ↦ Steps (counts_of sequencer.old) byte traced (counts_of sequencer.new) | Err stop ↦ Stops (counts_of sequencer.old) byte position stop ] }
+{
+    match Letter::from(byte) {
+        Letter::Access(mode) => {
+            access(sequencer, mode).map_err(|refusal| Stop::Refused { position, refusal })
+        }
+        Letter::LineEnd => Err(Stop::LineEnd),
+        Letter::Unknown => Err(Stop::Unknown { position, byte }),
+    }
+}
+
 impl Trace {
     // What each access of the line is assigned, up to the first byte that ends the trace.
     pub fn of_line(heap: Global, line: &[u8]) -> Result<Trace, AllocError>
@@ -75,26 +89,9 @@ impl Trace {
         let mut sequencer = Sequencer::new();
         let mut accesses = Vec::new(heap);
         for byte in line {
-            let position = accesses.len() + 1;
-            match Letter::of(*byte) {
-                Letter::Access(mode) => match access(&mut sequencer, mode) {
-                    Ok(traced) => accesses.push(traced)?,
-                    Err(refusal) => return Ok(Trace {
-                        accesses,
-                        stop: Stop::Refused { position, refusal },
-                    }),
-                },
-                Letter::LineEnd => return Ok(Trace {
-                    accesses,
-                    stop: Stop::LineEnd,
-                }),
-                Letter::Unknown => return Ok(Trace {
-                    accesses,
-                    stop: Stop::Unknown {
-                        position,
-                        byte: *byte,
-                    },
-                }),
+            match step(&mut sequencer, accesses.len() + 1, *byte) {
+                Ok(traced) => accesses.push(traced)?,
+                Err(stop) => return Ok(Trace { accesses, stop }),
             }
         }
         Ok(Trace {

@@ -1,7 +1,4 @@
 use Rattle.tracing.proofs.trace.StopDisplay.fmt.Goals as goal
 
-pub returns-in-Unknown-clause-writes : goal.returns-in-Unknown-clause-writes
-returns-in-Unknown-clause-writes g c = λ plain ok. simp c.in-Unknown.is (c.write-in-Unknown.ensures.writes plain ok)
-
 pub returns-in-Refused-clause-writes : goal.returns-in-Refused-clause-writes
 returns-in-Refused-clause-writes g c = λ plain ok. simp c.in-Refused.is (simp c.number-number.ensures at (c.write-in-Refused.ensures.writes plain ok))
