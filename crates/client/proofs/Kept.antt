@@ -1,8 +1,9 @@
 -- A good ticket stays good: the transaction is found among the unfinished, and only its own end closes it.
-use Rattle.std.proofs.Common.{◌≡◌, ℕ, ◌+◌, ◌<◌, ◌≤◌, Bool, true, false, cond, not, ◌||◌, eqb, leb, List, [], ◌∷◌, ◌++◌, length, Some, None, Option, sym, refl, ap, ◌∙◌, subst, arith}
+use Rattle.std.proofs.Common.{◌≡◌, ℕ, ◌+◌, ◌<◌, ◌≤◌, Bool, true, false, cond, not, ◌||◌, eqb, leb, List, [], ◌∷◌, ◌++◌, length, Some, None, Ok, Err, Option, Result, IfOk, sym, refl, ap, ◌∙◌, subst, arith}
 use Rattle.std.proofs.lemmas.Bool.{eqb-true, eq-eqb, ne_eqb, leb-true, not-true, not_from_false, false≢true, and_parts, cond_both}
 use Rattle.catalogue.specs.declared.row.Row.{Row}
-use Rattle.catalogue.specs.Refusals.{first}
+use Rattle.catalogue.specs.declared.refusal.Refusal.{Refusal}
+use Rattle.catalogue.specs.Refusals.{first, told}
 use Rattle.sequencing.specs.declared.mode.Mode.{Mode}
 use Rattle.sequencing.specs.declared.call.Call.{Call}
 use Rattle.versioning.specs.declared.operation.Operation.{Operation}
@@ -24,7 +25,7 @@ low_below low (x ∷ xs) begun up =
     let parts = and_parts (leb low x.number) (rising (x.number + 1) xs begun) up in
     omega (arith, leb-true low x.number parts.0, low_below (x.number + 1) xs begun parts.1)
 
-pub find_newest : (low : ℕ) (xs : List Transaction) (x : Transaction) → rising low xs x.number ≡ true → find x.number (xs ++ (x ∷ [])) ≡ x
+find_newest : (low : ℕ) (xs : List Transaction) (x : Transaction) → rising low xs x.number ≡ true → find x.number (xs ++ (x ∷ [])) ≡ x
 find_newest low [] x up = ap (λ b. cond b x (find x.number [])) (eq-eqb x.number x.number refl)
 find_newest low (y ∷ ys) x up =
     let parts = and_parts (leb low y.number) (rising (y.number + 1) ys x.number) up in
@@ -106,7 +107,7 @@ module _ {V K : Type 0} (pack : V → Row) (unpack : K → Row → Option V) whe
   stays_good s k (Request.ReadAs m t r kind) g h = g
 
 -- an accepted begin's number is that of a good ticket
-pub newest_good : (s : State) (modes : List Mode) (n : ℕ) (later : State) → rising 0 s.unfinished s.counts.begun ≡ true → (0, Some n) ≡ begin_reply s modes → later ≡ begin_after s modes → Good later n
+newest_good : (s : State) (modes : List Mode) (n : ℕ) (later : State) → rising 0 s.unfinished s.counts.begun ≡ true → (0, Some n) ≡ begin_reply s modes → later ≡ begin_after s modes → Good later n
 newest_good s modes n later up answer left = go (first (begin_checks s modes)) (sym (ap (λ a. a.0) answer)) (ap (λ a. a.1) answer) left
   where
     new : Good (beginning_after s modes) s.counts.begun
@@ -121,3 +122,8 @@ newest_good s modes n later up answer left = go (first (begin_checks s modes)) (
     go : (x : ℕ) → x ≡ 0 → Some n ≡ cond (eqb x 0) (Some s.counts.begun) None → later ≡ cond (eqb x 0) (beginning_after s modes) s → Good later n
     go x z e l =
         taken (subst (λ m. Some n ≡ cond (eqb m 0) (Some s.counts.begun) None) z e) (subst (λ m. later ≡ cond (eqb m 0) (beginning_after s modes) s) z l)
+
+-- whatever a begin answers
+pub begin_good : (s : State) (modes : List Mode) (r : Result ℕ Refusal) (later : State) → rising 0 s.unfinished s.counts.begun ≡ true → told r ≡ begin_reply s modes → later ≡ begin_after s modes → IfOk r (λ n. Good later n)
+begin_good s modes (Ok n) later up answer left = newest_good s modes n later up answer left
+begin_good s modes (Err e) later up answer left = tt

@@ -8,14 +8,16 @@ use Rattle.sequencing.specs.declared.call.Call.{Call}
 use Rattle.versioning.specs.declared.request.Request.{Request}
 use Rattle.versioning.specs.Words.{ended}
 use Rattle.versioning.specs.Machine.{State, course, begin_reply, abort_reply, after}
-use Rattle.client.specs.declared.declaration.Declaration.{Declaration}
+use Rattle.cluster.specs.declared.cluster.Cluster.{Cluster}
+use Rattle.cluster.specs.View.{replicas_of}
 use Rattle.client.specs.declared.ticket.Ticket.{Ticket}
+use Rattle.client.specs.declared.ticket.NotBegun.{NotBegun}
 use Rattle.client.specs.declared.ticket.NotAborted.{NotAborted}
 
 -- What a begin tells: 0 and the transaction that the ticket is for, or the refusal's number and the declaration handed back.
-abbrev pub begin_told : Result Ticket (Refusal × Declaration) → ℕ × Option ℕ × Option (List Mode)
+abbrev pub begin_told : Result Ticket NotBegun → ℕ × Option ℕ × Option (List Mode)
 begin_told (Ok t) = (0, Some t.number, None)
-begin_told (Err e) = (number e.0, None, Some e.1.modes)
+begin_told (Err e) = (number e.refusal, None, Some e.declaration.modes)
 
 -- It is the machine's begin; a refused one hands the declaration back.
 abbrev pub ticket_reply : State → List Mode → ℕ × Option ℕ × Option (List Mode)
@@ -32,6 +34,10 @@ abort_told (Err (NotAborted.Refused r)) = (number r, None)
 abbrev pub spent_reply : State → ℕ → ℕ × Option ℕ
 spent_reply s k =
     ((abort_reply s k).0, cond ((abort_reply s k).0 == number Refusal.PastRecall) (Some k) None)
+
+-- What is lent to each replica of a cluster is after a call what it was before.
+abbrev pub Keeps : {R L : Type 0} → (R → L) → Cluster R → Cluster R → Type 0
+Keeps lents before after = lents (replicas_of after) ≡ lents (replicas_of before)
 
 -- A ticket for the transaction k is good in a state: k has begun there and is open.
 pub record Good (s : State) (k : ℕ) : Type 0 where

@@ -19,11 +19,11 @@ pub struct Declaration {
     modes: [Mode; 8],
 }
 
-impl Access {
-    fn mode(self) -> Mode
-        ensures { result ≡ mode_for self }
-    {
-        match self {
+impl From<Access> for Mode {
+    ghost from_gives = { λ access mode. mode ≡ mode_for access };
+
+    fn from(access: Access) -> Mode {
+        match access {
             Access::Read => Mode::Read,
             Access::Write => Mode::Write,
         }
@@ -43,13 +43,14 @@ impl Declaration {
         ensures answer { told result ≡ add_reply self.old.modes table }
         ensures after { self.new.modes ≡ add_after self.old.modes table access }
     {
+        // By its index, since `get_mut` promises nothing of the modes once one of them is given back.
         if table >= TABLES {
             return Err(Refusal::TableOutOfRange);
         }
         if self.modes[table as usize].declares() {
             return Err(Refusal::TableRepeated);
         }
-        self.modes[table as usize] = access.mode();
+        self.modes[table as usize] = access.into();
         Ok(())
     }
 

@@ -1,4 +1,4 @@
-// What the static library kaqsherim_c exports to C under these names: numbers and bytes alone.
+// What the static library kaqsherim_c exports to C under these names: numbers and bytes alone. They stand here and there, since a crate is a library or a static library.
 ghost use Rattle.std.specs.Prelude.{◌≡◌};
 ghost use Rattle.kaqsherim.specs.Answers.{Measured, Ran, library_version};
 

@@ -1,5 +1,8 @@
 ghost use Rattle.std.specs.Prelude.{◌≡◌, ◌^◌, ◌<◌, IfOk};
 ghost use Rattle.kaqsherim.specs.Answers.{number_of};
+ghost use Rattle.kaqsherim.specs.declared.unwritten.Unwritten.TheVariants.{NoMemory};
+
+use std::alloc::AllocError;
 
 // Why no report was written.
 #[derive(Clone, Copy, Debug)]
@@ -8,7 +11,16 @@ pub enum Unwritten {
     NoMemory,
 }
 
+impl From<AllocError> for Unwritten {
+    ghost from_gives = { λ _ why. why ≡ NoMemory };
+
+    fn from(_error: AllocError) -> Unwritten {
+        Unwritten::NoMemory
+    }
+}
+
 // The number that a caller outside Rattle is answered: the report's length, or a refusal's, which is below zero.
+// C is answered numbers alone, so it stays one.
 pub(crate) fn number(answer: Result<usize, Unwritten>) -> i64
     requires { IfOk answer (λ n. n < 2 ^ 63) }
     ensures { result ≡ number_of answer }

@@ -11,10 +11,7 @@ pub fn report_length(heap: Global, sheet: &[u8]) -> Result<usize, Unwritten>
     ensures answer { Answered (Ok (length (report sheet.now))) result }
     ensures small { IfOk result (λ n. n < 2 ^ 63) }
 {
-    match run_sheet(heap, sheet) {
-        Ok(text) => Ok(text.len()),
-        Err(_) => Err(Unwritten::NoMemory),
-    }
+    Ok(run_sheet(heap, sheet)?.len())
 }
 
 // Runs the sheet and writes its report to the front of the buffer, or nothing where it does not fit; answers the report's length.
@@ -23,15 +20,12 @@ pub fn write_report(heap: Global, sheet: &[u8], buffer: &mut [u8]) -> Result<usi
     ensures buffer { buffer.new ≡ after (report sheet.now) buffer.old result }
     ensures small { IfOk result (λ n. n < 2 ^ 63) }
 {
-    let text = match run_sheet(heap, sheet) {
-        Ok(text) => text,
-        Err(_) => return Err(Unwritten::NoMemory),
-    };
-    let bytes = text.as_slice();
-    let length = bytes.len();
+    let text = run_sheet(heap, sheet)?;
+    let length = text.len();
+    // `get_mut(..length)` promises nothing of the buffer once its part is given back.
     if buffer.len() < length {
         return Err(Unwritten::BufferTooShort);
     }
-    buffer[..length].copy_from_slice(bytes);
+    buffer[..length].copy_from_slice(text.as_slice());
     Ok(length)
 }

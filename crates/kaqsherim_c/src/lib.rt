@@ -1,4 +1,4 @@
-// The library for C: each export is the function of that name of `kaqsherim`. A `Global` has no bytes, so that C passes nothing for it; a slice is a pointer and a length.
+// The library for C: each export is the function of that name of `kaqsherim`, again, since a crate is a library or a static library. A `Global` has no bytes, so that C passes nothing for it; a slice is a pointer and a length.
 #![tactic(auto)]
 
 ghost use Rattle.std.specs.Prelude.{◌≡◌};

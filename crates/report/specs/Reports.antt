@@ -7,8 +7,7 @@ use Rattle.sequencing.specs.declared.call.Call.{Call}
 use Rattle.line.specs.Refusals.{Told}
 use Rattle.sheet.specs.Sheets.{counted_on, sheet_entries}
 use Rattle.versioning.specs.Machine.{State, start, call_reply, call_after}
-use Rattle.report.specs.declared.report_line.ReportLine.{ReportLine}
-use Rattle.report.specs.Lines.{answered, unread, line_text}
+use Rattle.report.specs.Lines.{Fields, answered, unread, line_text}
 
 -- The rows of a catalogue in which every row is zero.
 unfoldable pub zero_rows : List Row
@@ -19,7 +18,7 @@ abbrev pub opening : State
 opening = start 3 zero_rows
 
 -- The report's line for what line n of the sheet tells, where the lines before it left the state s: the machine answers its call.
-abbrev pub reported : ℕ → State → Told Call → ReportLine
+abbrev pub reported : ℕ → State → Told Call → Fields
 reported n s e =
     elim e.3 [ None ↦ unread e.0 e.1 e.2 | Some call ↦ answered n call (call_reply {V = Counter} s call) ]
 

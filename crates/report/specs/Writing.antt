@@ -1,5 +1,5 @@
 -- How a report is written: by the answers to all the calls of a sheet, which are taken one by one.
-use Rattle.std.specs.Prelude.{ℕ, ◌<◌, List, [], ◌∷◌, ◌++◌, length, drop, Some, None, slice_index_or}
+use Rattle.std.specs.Prelude.{ℕ, List, [], ◌∷◌, ◌++◌, drop, Some, None, slice_index_or}
 use Rattle.catalogue.specs.declared.kind.counter.Counter.{Counter}
 use Rattle.catalogue.specs.Kinds.{counter_packed, counter_unpacked}
 use Rattle.sequencing.specs.declared.call.Call.{Call}
@@ -8,8 +8,7 @@ use Rattle.sheet.specs.Sheets.{counted_on}
 use Rattle.versioning.specs.declared.request.Request.{Request}
 use Rattle.versioning.specs.Machine.{State, Answer}
 use Rattle.cluster.specs.Runs.{replies}
-use Rattle.report.specs.declared.report_line.ReportLine.{ReportLine}
-use Rattle.report.specs.Lines.{answered, unread, line_text}
+use Rattle.report.specs.Lines.{Fields, answered, unread, line_text}
 
 -- Requests that speak of counters, where they speak of values at all.
 abbrev pub Requests : Type 0
@@ -24,12 +23,8 @@ requests_in (e ∷ es) = elim e.3 [ None ↦ requests_in es | Some call ↦ Requ
 abbrev pub answers_to : State → Requests → List (Answer Counter)
 answers_to s qs = replies counter_packed (λ k r. counter_unpacked r) s qs
 
--- There is an answer for a line that makes a call.
-abbrev pub Answered : {A : Type 0} → Told Call → List A → Type 0
-Answered e answers = elim e.3 [ None ↦ Unit {0} | Some call ↦ 0 < length answers ]
-
 -- The report's line for what line n tells, by the first of the answers.
-abbrev pub line_with : ℕ → Told Call → List (Answer Counter) → ReportLine
+abbrev pub line_with : ℕ → Told Call → List (Answer Counter) → Fields
 line_with n e answers =
     elim e.3 [ None ↦ unread e.0 e.1 e.2 | Some call ↦ answered n call (slice_index_or answers 0 (0, None)) ]
 

@@ -1,5 +1,5 @@
 // The cluster on which a sheet is run: three replicas of zero rows, each of its own kind.
-ghost use Rattle.std.specs.Prelude.{◌≡◌, [], ◌∷◌, map, IfOk};
+ghost use Rattle.std.specs.Prelude.{◌≡◌, ◌∷◌, [], map, IfOk};
 ghost use Rattle.catalogue.specs.Refusals.{told};
 ghost use Rattle.report.specs.Reports.{opening};
 ghost use Rattle.report.specs.Writing.{answers_to};
@@ -20,10 +20,7 @@ use versioning::request::{Outcome, Request};
 fn backwards() -> Numbers
     ensures { result.below ≡ 7 ∷ 6 ∷ 5 ∷ 4 ∷ 3 ∷ 2 ∷ 1 ∷ 0 ∷ [] }
 {
-    match Numbers::new([7, 6, 5, 4, 3, 2, 1, 0]) {
-        Ok(numbers) => numbers,
-        Err(_refusal) => unreachable(),
-    }
+    Numbers::new([7, 6, 5, 4, 3, 2, 1, 0]).unwrap()
 }
 
 // The answers to the requests, which are made of a new cluster. No sheet speaks of values, so any kind does for those.

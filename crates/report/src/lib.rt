@@ -2,8 +2,6 @@
 #![tactic(auto)]
 
 mod answering;
-pub mod cell;
-mod decimal;
 pub mod report_line;
 mod requesting;
 pub mod running;

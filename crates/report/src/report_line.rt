@@ -1,151 +1,151 @@
 ghost use Rattle.std.specs.Prelude.{◌≡◌, [], ◌∷◌, ◌++◌, OnOk};
 ghost use Rattle.catalogue.specs.Refusals.{told, number as number_of};
-ghost use Rattle.report.specs.Lines.{named as named_by, stepped as stepped_by, accepted as accepted_line, answered as answered_line, unread as unread_line, line_text, with_field, with_fields};
+ghost use Rattle.report.specs.Lines.{named as named_by, stepped as stepped_by, blank as blank_line, answered as answered_line, unread as unread_line, fields_of, behind_the_line, line_text, cell_text};
 
-use crate::cell::Cell;
-use crate::decimal::append_decimal;
 use catalogue::refusal::Refusal;
-use catalogue::row::Row;
+use itoa::Buffer;
 use sequencing::call::Call;
 use sheet::refusal::SheetRefusal;
 use std::alloc::AllocError;
 use versioning::request::Outcome;
 
-// One line of a report.
+// One line of a report. What is none is an empty field, but for the refusal, which is printed as 0.
 #[derive(Clone, Copy)]
 pub struct ReportLine {
     line: u32,
-    refusal: u8,
-    number: Cell,
-    replica: Cell,
-    high: Cell,
-    low: Cell,
+    refusal: Option<Refusal>,
+    number: Option<u32>,
+    replica: Option<u32>,
+    high: Option<u64>,
+    low: Option<u64>,
 }
 
 // The transaction that a call names; a begin names none.
-fn named(call: Call) -> Cell
+fn named(call: Call) -> Option<u32>
     ensures { result ≡ named_by call }
 {
     match call {
-        Call::Begin { .. } => Cell::Empty,
+        Call::Begin { .. } => None,
         Call::Write { number, .. }
         | Call::Read { number, .. }
         | Call::Release { number, .. }
         | Call::Commit { number }
         | Call::Abort { number }
-        | Call::Step { number, .. } => Cell::Number(u64::from(number)),
+        | Call::Step { number, .. } => Some(number),
     }
 }
 
 // The replica at which a call is a step.
-fn stepped(call: Call) -> Cell
+fn stepped(call: Call) -> Option<u32>
     ensures { result ≡ stepped_by call }
 {
     match call {
-        Call::Step { replica, .. } => Cell::Number(u64::from(replica)),
+        Call::Step { replica, .. } => Some(replica),
         Call::Begin { .. }
         | Call::Write { .. }
         | Call::Read { .. }
         | Call::Release { .. }
         | Call::Commit { .. }
-        | Call::Abort { .. } => Cell::Empty,
+        | Call::Abort { .. } => None,
     }
 }
 
-// Appends a comma and the field behind it.
-fn append_field(text: &mut Vec<u8>, field: Cell) -> Result<(), AllocError>
-    ensures { OnOk result (text.new.items ≡ with_field text.old.items field) }
+// Appends a field's number, or nothing where it is empty.
+fn append_cell(text: &mut Vec<u8>, cell: Option<u64>) -> Result<(), AllocError>
+    ensures { OnOk result (text.new.items ≡ text.old.items ++ cell_text cell) }
 {
-    text.push(b',')?;
-    field.append_to(text)
+    if let Some(n) = cell {
+        text.extend_from_slice(Buffer::new().format(n).as_bytes())?;
+    }
+    Ok(())
 }
 
 impl ReportLine {
-    // A line that was refused as it was read: its field stands under low.
-    pub fn unread(refused: SheetRefusal) -> ReportLine
-        ensures { result ≡ unread_line (number_of refused.refusal) refused.line refused.field }
+    // An accepted call's line, with every other field empty.
+    fn blank(line: u32) -> ReportLine
+        ensures { fields_of result ≡ blank_line line }
     {
-        ReportLine {
-            line: refused.line,
-            refusal: refused.refusal.number(),
-            number: Cell::Empty,
-            replica: Cell::Empty,
-            high: Cell::Empty,
-            low: Cell::Number(u64::from(refused.field)),
-        }
-    }
-
-    fn accepted<V: Copy>(line: u32, call: Call, outcome: Outcome<V>) -> ReportLine
-        ensures { result ≡ accepted_line line call outcome }
-    {
-        let (number, replica, high, low) = match outcome {
-            Outcome::Accepted => (named(call), stepped(call), Cell::Empty, Cell::Empty),
-            Outcome::Begun { number } => (
-                Cell::Number(u64::from(number)),
-                Cell::Empty,
-                Cell::Empty,
-                Cell::Empty,
-            ),
-            Outcome::Found { row, replica } => (
-                named(call),
-                Cell::Number(u64::from(replica)),
-                Cell::Number(row.high),
-                Cell::Number(row.low),
-            ),
-            Outcome::Value { replica, .. } => (
-                named(call),
-                Cell::Number(u64::from(replica)),
-                Cell::Empty,
-                Cell::Empty,
-            ),
-        };
         ReportLine {
             line,
-            refusal: 0,
-            number,
-            replica,
-            high,
-            low,
+            refusal: None,
+            number: None,
+            replica: None,
+            high: None,
+            low: None,
         }
     }
 
-    // A line whose call was answered.
+    // A line that was refused as it was read: its field stands under low.
+    pub fn unread(refused: SheetRefusal) -> ReportLine
+        ensures { fields_of result ≡ unread_line (number_of refused.refusal) refused.line refused.field }
+    {
+        ReportLine {
+            refusal: Some(refused.refusal),
+            low: Some(u64::from(refused.field)),
+            ..ReportLine::blank(refused.line)
+        }
+    }
+
+    // A line whose call was answered. No call of a sheet has a typed outcome; it would have the replica alone.
     pub fn answered<V: Copy>(
         line: u32,
         call: Call,
         answer: Result<Outcome<V>, Refusal>,
     ) -> ReportLine
-        ensures { result ≡ answered_line line call (told answer) }
+        ensures { fields_of result ≡ answered_line line call (told answer) }
     {
+        let named = ReportLine {
+            number: named(call),
+            ..ReportLine::blank(line)
+        };
         match answer {
-            Ok(outcome) => ReportLine::accepted(line, call, outcome),
+            Ok(Outcome::Accepted) => ReportLine {
+                replica: stepped(call),
+                ..named
+            },
+            Ok(Outcome::Begun { number }) => ReportLine {
+                number: Some(number),
+                ..named
+            },
+            Ok(Outcome::Found { row, replica }) => ReportLine {
+                replica: Some(replica),
+                high: Some(row.high),
+                low: Some(row.low),
+                ..named
+            },
+            Ok(Outcome::Value { replica, .. }) => ReportLine {
+                replica: Some(replica),
+                ..named
+            },
             Err(refusal) => ReportLine {
-                line,
-                refusal: refusal.number(),
-                number: named(call),
-                replica: Cell::Empty,
-                high: Cell::Empty,
-                low: Cell::Empty,
+                refusal: Some(refusal),
+                ..named
             },
         }
     }
 
-    fn append_fields(&self, text: &mut Vec<u8>) -> Result<(), AllocError>
-        ensures { OnOk result (text.new.items ≡ with_fields text.old.items self.now) }
+    // The fields behind the line's number, in their order.
+    fn cells(&self) -> [Option<u64>; 5]
+        ensures { result ≡ behind_the_line (fields_of self.now) }
     {
-        append_decimal(text, u64::from(self.line))?;
-        append_field(text, Cell::Number(u64::from(self.refusal)))?;
-        append_field(text, self.number)?;
-        append_field(text, self.replica)?;
-        append_field(text, self.high)?;
-        append_field(text, self.low)
+        [
+            Some(u64::from(self.refusal.map_or(0, Refusal::number))),
+            self.number.map(u64::from),
+            self.replica.map(u64::from),
+            self.high,
+            self.low,
+        ]
     }
 
     // Appends the line and a line feed to the text.
     pub(crate) fn append_to(&self, text: &mut Vec<u8>) -> Result<(), AllocError>
-        ensures { OnOk result (text.new.items ≡ text.old.items ++ (line_text self.now ++ (10 ∷ []))) }
+        ensures { OnOk result (text.new.items ≡ text.old.items ++ (line_text (fields_of self.now) ++ (10 ∷ []))) }
     {
-        self.append_fields(text)?;
+        append_cell(text, Some(u64::from(self.line)))?;
+        for cell in self.cells() {
+            text.push(b',')?;
+            append_cell(text, cell)?;
+        }
         text.push(b'\n')?;
         Ok(())
     }

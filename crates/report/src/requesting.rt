@@ -15,11 +15,8 @@ pub(crate) fn requests(
 ) -> Result<Vec<Request<Counter, ()>>, AllocError>
     ensures { IfOk result (λ v. v.items ≡ requests_in (map told entries.now)) }
 {
-    let mut requests = Vec::new(heap);
-    for reading in entries {
-        if let Ok(call) = *reading {
-            requests.push(Request::Call(call))?;
-        }
-    }
-    Ok(requests)
+    entries
+        .iter()
+        .filter_map(|reading| reading.ok().map(Request::Call))
+        .collect(heap)
 }

@@ -1,4 +1,4 @@
-use Rattle.std.proofs.Common.{◌≡◌, ◌≤◌, length, take, replicate, ap, ◌∙◌, arith}
+use Rattle.std.proofs.Common.{◌≡◌, take, replicate, ap, ◌∙◌, arith}
 use lib.ListN.{length-replicate}
 use Rattle.std.proofs.lemmas.List.{take_all}
 use Rattle.catalogue.specs.Rows.{blank}
@@ -12,7 +12,7 @@ use Rattle.report.proofs.answering.answers.Goals as goal
 pub returns-in-Ok : goal.returns-in-Ok
 unfolding zero_rows
 returns-in-Ok c =
-    let few : length (replicate 512 blank) ≤ 512 = omega (arith, length-replicate 512 blank) in
-    let zero : image c.in_ok-first.first ≡ replicate 512 blank = ap (take 512) c.in_ok-first.ensures ∙ take_all 512 (replicate 512 blank) few in
+    let zero : image c.in_ok-first.first ≡ replicate 512 blank =
+    ap (take 512) c.in_ok-first.ensures ∙ take_all 512 (replicate 512 blank) (omega (arith, length-replicate 512 blank)) in
     c.in-Ok.ensures.answers
     ∙ ap (λ rows. answers_to (start 3 rows) c.args.requests.now) (c.new.ensures.rows ∙ zero)
