@@ -9,12 +9,6 @@ grows : (n : ℕ) (bs : List ℕ) → n ≤ value_behind n bs
 grows n [] = omega arith
 grows n (b ∷ bs) = let more = grows (n * 10 + (b - 48)) bs in omega arith
 
-on : (digit fits : Bool) (bound n next : ℕ) (bs : List ℕ) → Some next ≡ cond ((digit && true) && fits) (Some n) None
-    → cond ((digit && all_digits bs) && ltb (value_behind n bs) bound) (Some (value_behind n bs)) None ≡ digits_behind bound next bs
-on true true bound n next bs e = let q : n ≡ next = cc in ap (λ k. digits_behind bound k bs) q
-on true false bound n next bs e = cc
-on false fits bound n next bs e = cc
-
 off : (digit fits : Bool) (bound n : ℕ) (bs : List ℕ) → ltb n bound ≡ fits → None ≡ cond ((digit && true) && fits) (Some n) None
     → None ≡ cond ((digit && all_digits bs) && ltb (value_behind n bs) bound) (Some (value_behind n bs)) None
 off true true bound n bs t e = cc
@@ -27,11 +21,6 @@ off false fits bound n bs t e = refl
 module _ (bound n : ℕ) (text : List ℕ) (i : ℕ) (l : i < length text) where
   abbrev b : ℕ
   b = get_or text i 0
-
-  pub digit_taken : (next : ℕ) → Some next ≡ digits_behind bound n (b ∷ []) → digits_behind bound n (drop i text) ≡ digits_behind bound next (drop (i + 1) text)
-  digit_taken next e =
-      ap (digits_behind bound n) (drop_more text i 0 l)
-      ∙ on (is_digit b) (ltb (n * 10 + (b - 48)) bound) bound (n * 10 + (b - 48)) next (drop (i + 1) text) e
 
   pub digit_refused : None ≡ digits_behind bound n (b ∷ []) → None ≡ digits_behind bound n (drop i text)
   digit_refused e =

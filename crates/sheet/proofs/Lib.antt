@@ -1,3 +1,1 @@
 mod Lined
-mod Stood
-mod Entered

@@ -1,9 +1,8 @@
 -- A trace, access by access: the sequencer's counters of table 0 are those of the accesses so far.
-use Rattle.std.proofs.Common.{◌≡◌, ℕ, ◌+◌, ◌<◌, Bool, true, false, cond, not, eqb, ltb, List, [], ◌∷◌, ◌++◌, length, get_or, drop, Some, None, Option, sym, refl, ap, ◌∙◌, append_assoc, append-nil, add-one, arith, length-append}
+use Rattle.std.proofs.Common.{◌≡◌, ℕ, ◌+◌, ◌<◌, Bool, true, false, cond, not, eqb, ltb, List, [], ◌∷◌, ◌++◌, length, get_or, drop, Some, None, Option, sym, refl, ap, ◌∙◌, append_assoc, add-one, arith, length-append}
 use Rattle.std.proofs.lemmas.List.{drop_more}
 use Rattle.catalogue.specs.declared.refusal.Refusal.{Refusal}
-use Rattle.catalogue.specs.Refusals.{number, unless_refused}
-use Rattle.catalogue.proofs.Numbers.{number_once}
+use Rattle.catalogue.specs.Refusals.{unless_refused}
 use Rattle.sequencing.specs.declared.mode.Mode.{Mode}
 use Rattle.sequencing.specs.declared.sequencer.Next.{Next}
 use Rattle.tracing.specs.declared.trace.Letter.{Letter}
@@ -11,7 +10,7 @@ use Rattle.tracing.specs.declared.trace.Traced.{Traced}
 use Rattle.tracing.specs.declared.trace.Stop.{Stop}
 use Rattle.sequencing.specs.Modes.{declares}
 use Rattle.sequencing.specs.Sequencer.{Counts, assigned, moved_on, next_at, all_moved_on, begin_refusal, begin_after}
-use Rattle.tracing.specs.Trace.{letter_of, only, access_reply, counters, traced, preceded, trace_of, through_last_write, Steps, Stops}
+use Rattle.tracing.specs.Trace.{letter_of, only, access_reply, counters, traced, preceded, trace_of, through_last_write, Steps}
 
 -- the accesses of which the trace is already told, before the rest of it
 abbrev pub joined : List Traced → List Traced × Stop → List Traced × Stop
@@ -72,13 +71,6 @@ module _ {earlier : List Mode} {counts : Counts} {accesses : List Traced} {line 
       ∙ ap (λ (left : List ℕ). joined accesses (trace_of earlier left)) (sym (drop_more line i 0 l))
       ∙ a.rest
 
-  position : (n : ℕ) → n ≡ length accesses → n + 1 ≡ length earlier + 1
-  position n e = omega (arith, a.many)
-
-  -- a byte that ends the trace
-  ends : (x : Letter) (s : Stop) → x ≡ letter_of b → by earlier b bs x ≡ ([], s) → (accesses, s) ≡ trace_of [] line
-  ends x s e h = ap (λ (xs : List Traced). (xs, s)) (sym (append-nil accesses)) ∙ ap (joined accesses) (sym h) ∙ rest_by x (sym e)
-
   module _ (m : Mode) (e : Letter.Access m ≡ letter_of b) where
     refusal_here : begin_refusal counts (only m) ≡ checked (ltb (length earlier) 1000000)
     refusal_here = refusal_is counts m (declared b m (sym e)) ∙ ap (λ n. checked (ltb n 1000000)) a.begun
@@ -92,18 +84,6 @@ module _ {earlier : List Mode} {counts : Counts} {accesses : List Traced} {line 
     reply_here =
         ap (λ n. unless_refused n (record { assigned = assigned m (next_at counts.next 0); next = moved_on m (next_at counts.next 0) })) refusal_here
         ∙ ap (unless_refused (checked (ltb (length earlier) 1000000))) value_here
-
-    -- an access that is refused
-    refused : (r : Refusal) (n : ℕ) → n ≡ length accesses → (number r, None) ≡ access_reply counts m → (accesses, Stop.Refused (n + 1) r) ≡ trace_of [] line
-    unfolding checked
-    refused r n many told =
-        ap (λ k. (accesses, Stop.Refused k r)) (position n many) ∙ go (ltb (length earlier) 1000000) refl (told ∙ reply_here)
-      where
-        go : (room : Bool) → ltb (length earlier) 1000000 ≡ room → (number r, None) ≡ unless_refused (checked room) (traced m earlier) → (accesses, Stop.Refused (length earlier + 1) r) ≡ trace_of [] line
-        go true full t = let no : ◌≡◌ {A = Option Traced} None (Some (traced m earlier)) = ap (λ x. x.1) t in cc
-        go false full t =
-            ap (λ (q : Refusal). (accesses, Stop.Refused (length earlier + 1) q)) (number_once r Refusal.TooManyBegun (ap (λ x. x.0) t))
-            ∙ ends (Letter.Access m) (Stop.Refused (length earlier + 1) Refusal.TooManyBegun) e (ap (λ (v : Bool). cond v (preceded (traced m earlier) (trace_of (m ∷ earlier) bs)) ([], Stop.Refused (length earlier + 1) Refusal.TooManyBegun)) full)
 
     -- an access that is accepted
     module _ (x : Traced) (told : (0, Some x) ≡ access_reply counts m) where
@@ -137,14 +117,6 @@ module _ {earlier : List Mode} {counts : Counts} {accesses : List Traced} {line 
                 ∙ ap (λ (v : Bool). joined accesses (cond v (preceded (traced m earlier) (trace_of (m ∷ earlier) bs)) ([], Stop.Refused (length earlier + 1) Refusal.TooManyBegun))) (sym room)
                 ∙ rest_by (Letter.Access m) (sym e);
           }
-
-  -- a byte at which the trace ends
-  pub stopped : (n : ℕ) (s : Stop) → n ≡ length accesses → Stops counts b (n + 1) s → (accesses, s) ≡ trace_of [] line
-  stopped n Stop.LineEnd many e = ends Letter.LineEnd Stop.LineEnd (sym e) refl
-  stopped n (Stop.Unknown q d) many (e, at, byte) =
-      ends Letter.Unknown (Stop.Unknown q d) (sym e) (cc (at ∙ position n many))
-  stopped n (Stop.Refused q r) many (m, e, at, told) =
-      ap (λ k. (accesses, Stop.Refused k r)) at ∙ refused m (sym e) r n many told
 
   -- a byte that is an access
   pub stepped : (x : Traced) (counts' : Counts) (accesses' : List Traced) (s : Steps counts b x counts') → accesses' ≡ accesses ++ x ∷ [] → After (s.mode ∷ earlier) counts' accesses' line bs

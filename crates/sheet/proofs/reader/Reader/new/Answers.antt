@@ -1,5 +1,5 @@
 use Rattle.std.proofs.Common.{true, false, rules}
-use Rattle.sheet.proofs.Stood.{opened}
+use Rattle.sheet.proofs.Lined.{opened}
 use Rattle.sheet.proofs.reader.Reader.new.Goals.{in_default-via-in-Some+else-eq, in_default-via-in_default}
 use Rattle.sheet.proofs.reader.Reader.new.Goals as goal
 
