@@ -39,8 +39,6 @@ pub(crate) fn answers(
         ChangeList::new(&mut second),
         Cache::new(Renumbering::new(Image::new(&mut third), &numbers)),
     );
-    match Cluster::run(heap, replicas, requests) {
-        Ok((answers, _cluster)) => Ok(answers),
-        Err(_replicas) => Err(AllocError),
-    }
+    let (answers, _cluster) = Cluster::run(heap, replicas, requests)?;
+    Ok(answers)
 }

@@ -1,5 +1,6 @@
 ghost use Rattle.std.specs.Prelude.{◌≡◌, [], ◌∷◌, ◌++◌, OnOk};
 ghost use Rattle.catalogue.specs.Refusals.{told, number as number_of};
+ghost use Rattle.line.specs.Refusals.{field_of};
 ghost use Rattle.report.specs.Lines.{named as named_by, stepped as stepped_by, blank as blank_line, answered as answered_line, unread as unread_line, fields_of, behind_the_line, line_text, cell_text};
 
 use catalogue::refusal::Refusal;
@@ -77,11 +78,11 @@ impl ReportLine {
 
     // A line that was refused as it was read: its field stands under low.
     pub fn unread(refused: SheetRefusal) -> ReportLine
-        ensures { fields_of result ≡ unread_line (number_of refused.refusal) refused.line refused.field }
+        ensures { fields_of result ≡ unread_line (number_of refused.refusal) refused.line (field_of refused.column) }
     {
         ReportLine {
             refusal: Some(refused.refusal),
-            low: Some(u64::from(refused.field)),
+            low: Some(u64::from(refused.field())),
             ..ReportLine::blank(refused.line)
         }
     }
