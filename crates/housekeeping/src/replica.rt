@@ -1,41 +1,32 @@
 // Replicas at work, each at its own speed.
-use crate::studio::MOST_OPERATIONS;
+use crate::studio::{MOST_OPERATIONS, Studio};
 use catalogue::replicas::Replicas;
-use cluster::cluster::Cluster;
 
-// One operation of the transaction.
-pub(crate) fn work<R: Replicas>(
-    rt: &HostRuntime,
-    cluster: &mut Cluster<R>,
-    number: u32,
-    replica: u32,
-) -> anyhow::Result<()> {
-    match cluster.step(number, replica) {
-        Ok(()) => println!(rt;
-            "  replica {replica} executes an operation of transaction {number}"
-        )?,
-        Err(refusal) => {
-            let refusal = refusal.number();
-            println!(rt; "  replica {replica} cannot step transaction {number}: {refusal}")?
+impl<R: Replicas> Studio<'_, R> {
+    // One operation of the transaction.
+    pub(crate) fn work(&mut self, number: u32, replica: u32) -> anyhow::Result<()> {
+        match self.cluster.step(number, replica) {
+            Ok(()) => println!(self.rt;
+                "  replica {replica} executes an operation of transaction {number}"
+            )?,
+            Err(refusal) => {
+                let refusal = refusal.number();
+                println!(self.rt;
+                    "  replica {replica} cannot step transaction {number}: {refusal}"
+                )?
+            }
         }
+        Ok(())
     }
-    Ok(())
-}
 
-// All that waits there of the transaction.
-pub(crate) fn catch_up<R: Replicas>(
-    rt: &HostRuntime,
-    cluster: &mut Cluster<R>,
-    number: u32,
-    replica: u32,
-) -> anyhow::Result<()> {
-    let mut executed = 0u32;
-    for _ in 0..MOST_OPERATIONS {
-        if cluster.step(number, replica).is_err() {
-            break;
-        }
-        executed = executed.saturating_add(1);
+    // All that waits there of the transaction.
+    pub(crate) fn catch_up(&mut self, number: u32, replica: u32) -> anyhow::Result<()> {
+        let executed = (0..MOST_OPERATIONS)
+            .take_while(|_| self.cluster.step(number, replica).is_ok())
+            .count();
+        println!(self.rt;
+            "  replica {replica} catches up with transaction {number}: {executed} executed"
+        )?;
+        Ok(())
     }
-    println!(rt; "  replica {replica} catches up with transaction {number}: {executed} executed")?;
-    Ok(())
 }

@@ -8,9 +8,9 @@ use std::fmt;
 // What is known of a copy: a kind of row of this program's own.
 #[derive(Clone, Copy)]
 pub enum Verdict {
-    Unchecked,
-    Failed,
-    Passed,
+    Unchecked = 0,
+    Failed = 1,
+    Passed = 2,
 }
 
 impl Kind for Verdict {
@@ -25,12 +25,10 @@ impl Kind for Verdict {
     ghost packs = { Prim.search rules };
 
     fn pack(self) -> Row {
-        let high = match self {
-            Verdict::Unchecked => 0,
-            Verdict::Failed => 1,
-            Verdict::Passed => 2,
-        };
-        Row { high, low: 0 }
+        Row {
+            high: self as u64,
+            low: 0,
+        }
     }
 
     fn unpack(row: Row) -> Option<Verdict> {

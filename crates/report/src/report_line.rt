@@ -51,7 +51,8 @@ fn stepped(call: Call) -> Option<u32>
     }
 }
 
-// Appends a field's number, or nothing where it is empty.
+// Appends a field's number, or nothing where it is empty. Inlined, since a call for each field costs a run some hundredths more.
+#[inline(always)]
 fn append_cell(text: &mut Vec<u8>, cell: Option<u64>) -> Result<(), AllocError>
     ensures { OnOk result (text.new.items ≡ text.old.items ++ cell_text cell) }
 {
