@@ -8,8 +8,6 @@ use Rattle.sequencing.specs.declared.call.Call.{Call}
 use Rattle.versioning.specs.declared.request.Request.{Request}
 use Rattle.versioning.specs.Words.{ended}
 use Rattle.versioning.specs.Machine.{State, course, begin_reply, abort_reply, after}
-use Rattle.cluster.specs.declared.cluster.Cluster.{Cluster}
-use Rattle.cluster.specs.View.{replicas_of}
 use Rattle.client.specs.declared.ticket.Ticket.{Ticket}
 use Rattle.client.specs.declared.ticket.NotBegun.{NotBegun}
 use Rattle.client.specs.declared.ticket.NotAborted.{NotAborted}
@@ -34,10 +32,6 @@ abort_told (Err (NotAborted.Refused r)) = (number r, None)
 abbrev pub spent_reply : State → ℕ → ℕ × Option ℕ
 spent_reply s k =
     ((abort_reply s k).0, cond ((abort_reply s k).0 == number Refusal.PastRecall) (Some k) None)
-
--- What is lent to each replica of a cluster is after a call what it was before.
-abbrev pub Keeps : {R L : Type 0} → (R → L) → Cluster R → Cluster R → Type 0
-Keeps lents before after = lents (replicas_of after) ≡ lents (replicas_of before)
 
 -- A ticket for the transaction k is good in a state: k has begun there and is open.
 pub record Good (s : State) (k : ℕ) : Type 0 where

@@ -2,8 +2,8 @@
 ghost use Rattle.std.specs.Prelude.{◌≡◌, IfOk};
 ghost use Rattle.catalogue.specs.Refusals.{told};
 ghost use Rattle.versioning.specs.Machine.{begin_reply, begin_after, abort_reply, abort_after};
-ghost use Rattle.cluster.specs.View.{state_of};
-ghost use Rattle.client.specs.Tickets.{Keeps, Good, DoneOrPastRecall};
+ghost use Rattle.cluster.specs.View.{state_of, Keeps};
+ghost use Rattle.client.specs.Tickets.{Good, DoneOrPastRecall};
 
 use catalogue::refusal::Refusal;
 use catalogue::replicas::Replicas;

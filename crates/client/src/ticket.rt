@@ -1,8 +1,8 @@
 ghost use Rattle.std.specs.Prelude.{◌≡◌, IfOk, Some};
 ghost use Rattle.catalogue.specs.Refusals.{told};
 ghost use Rattle.versioning.specs.Machine.{begin_after, write_reply, write_after, read_reply, read_as_reply, release_reply, release_after, commit_reply, commit_after, abort_reply, abort_after};
-ghost use Rattle.cluster.specs.View.{state_of};
-ghost use Rattle.client.specs.Tickets.{begin_told, ticket_reply, abort_told, spent_reply, Keeps, Good, CanMeet, DoneOrPastRecall};
+ghost use Rattle.cluster.specs.View.{state_of, Keeps};
+ghost use Rattle.client.specs.Tickets.{begin_told, ticket_reply, abort_told, spent_reply, Good, CanMeet, DoneOrPastRecall};
 
 use crate::calling::{abort, begin};
 use crate::declaration::Declaration;
@@ -50,13 +50,11 @@ impl Ticket {
         ensures kept { Keeps R.Replicas.lents cluster.old cluster.new }
         ensures good { IfOk result (λ t. Good (state_of R.Replicas.catalogues cluster.new) t.number) }
     {
-        match begin(cluster, declaration.modes()) {
-            Ok(number) => Ok(Ticket { number }),
-            Err(refusal) => Err(NotBegun {
-                refusal,
-                declaration,
-            }),
-        }
+        let number = begin(cluster, declaration.modes()).map_err(|refusal| NotBegun {
+            refusal,
+            declaration,
+        })?;
+        Ok(Ticket { number })
     }
 
     pub fn write<R: Replicas>(
@@ -99,7 +97,7 @@ impl Ticket {
         cluster.release(self.number, table)
     }
 
-    // The row that the value packs into is written.
+    // The row that the value packs into is written. A row is no kind of its own, so this is not the one `write`.
     pub fn write_as<R: Replicas, F: Family>(
         &self,
         cluster: &mut Cluster<R>,

@@ -29,6 +29,10 @@ state_of catalogues c =
 abbrev pub replicas_of : {R : Type 0} → Cluster R → R
 replicas_of c = c.replicas
 
+-- What is lent to each replica is after a call what it was before.
+abbrev pub Keeps : {R L : Type 0} → (R → L) → Cluster R → Cluster R → Type 0
+Keeps lents before after = lents (replicas_of after) ≡ lents (replicas_of before)
+
 -- What asking an operation of the transaction k answers and leaves: write, release, commit and abort are such.
 abbrev pub ask_reply : State → ℕ → Operation → ℕ × Option (Unit {0})
 ask_reply s k op = unless_refused (first (known s k ∷ may_ask (course s k) op)) tt

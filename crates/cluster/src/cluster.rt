@@ -18,6 +18,7 @@ pub mod stepping;
 const MOST_UNFINISHED: usize = 16;
 
 // The replicas, the versions of the tables at each, and the transactions that are not finished everywhere, the oldest first.
+// These are no map by their numbers, which would allocate: no call after the opening does.
 #[derive(Drop)]
 pub struct Cluster<R> {
     replicas: R,

@@ -19,7 +19,8 @@ fn all_digits(text: &[u8]) -> Option<u64>
     Some(value)
 }
 
-// The number that the text is in decimal, without a leading zero; nothing where it is none, or too large.
+// The number that the text is in decimal, without a leading zero; nothing where it is none, or too large. Not `parse`, which takes a sign
+// and leading zeros.
 pub fn number(text: &[u8]) -> Option<u64>
     ensures { result ≡ number_below (2 ^ 64) text.now }
 {

@@ -112,6 +112,7 @@ impl<'a> Fields<'a> {
         Ok(Call::Read { number, table, row })
     }
 
+    // Release and step, and commit and abort, differ in the call alone: a parameter that makes the call would be longer.
     fn release(&self) -> Result<Call, SheetRefusal>
         ensures { told result ≡ form_reply release_form self.now.line (behind self.now) }
     {

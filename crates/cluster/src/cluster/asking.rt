@@ -1,7 +1,7 @@
 ghost use Rattle.std.specs.Prelude.{◌≡◌};
 ghost use Rattle.catalogue.specs.Refusals.{told};
 ghost use Rattle.versioning.specs.Machine.{write_reply, write_after, release_reply, release_after, commit_reply, commit_after, abort_reply, abort_after};
-ghost use Rattle.cluster.specs.View.{state_of, ask_reply, ask_after};
+ghost use Rattle.cluster.specs.View.{state_of, Keeps, ask_reply, ask_after};
 
 use super::Cluster;
 use catalogue::refusal::Refusal;
@@ -13,7 +13,7 @@ impl<R: Replicas> Cluster<R> {
     fn ask(&mut self, number: u32, operation: Operation) -> Result<(), Refusal>
         ensures answer { told result ≡ ask_reply (state_of R.Replicas.catalogues self.old) number operation }
         ensures after { state_of R.Replicas.catalogues self.new ≡ ask_after (state_of R.Replicas.catalogues self.old) number operation }
-        ensures kept { R.Replicas.lents self.new.replicas ≡ R.Replicas.lents self.old.replicas }
+        ensures kept { Keeps R.Replicas.lents self.old self.new }
     {
         if number >= self.sequencer.begun() {
             return Err(Refusal::UnknownTransaction);
@@ -34,7 +34,7 @@ impl<R: Replicas> Cluster<R> {
     ) -> Result<(), Refusal>
         ensures answer { told result ≡ write_reply (state_of R.Replicas.catalogues self.old) number table row class }
         ensures after { state_of R.Replicas.catalogues self.new ≡ write_after (state_of R.Replicas.catalogues self.old) number table row value class }
-        ensures kept { R.Replicas.lents self.new.replicas ≡ R.Replicas.lents self.old.replicas }
+        ensures kept { Keeps R.Replicas.lents self.old self.new }
     {
         self.ask(
             number,
@@ -50,7 +50,7 @@ impl<R: Replicas> Cluster<R> {
     pub fn release(&mut self, number: u32, table: u32) -> Result<(), Refusal>
         ensures answer { told result ≡ release_reply (state_of R.Replicas.catalogues self.old) number table }
         ensures after { state_of R.Replicas.catalogues self.new ≡ release_after (state_of R.Replicas.catalogues self.old) number table }
-        ensures kept { R.Replicas.lents self.new.replicas ≡ R.Replicas.lents self.old.replicas }
+        ensures kept { Keeps R.Replicas.lents self.old self.new }
     {
         self.ask(number, Operation::Release { table })
     }
@@ -58,7 +58,7 @@ impl<R: Replicas> Cluster<R> {
     pub fn commit(&mut self, number: u32) -> Result<(), Refusal>
         ensures answer { told result ≡ commit_reply (state_of R.Replicas.catalogues self.old) number }
         ensures after { state_of R.Replicas.catalogues self.new ≡ commit_after (state_of R.Replicas.catalogues self.old) number }
-        ensures kept { R.Replicas.lents self.new.replicas ≡ R.Replicas.lents self.old.replicas }
+        ensures kept { Keeps R.Replicas.lents self.old self.new }
     {
         self.ask(number, Operation::Commit)
     }
@@ -66,7 +66,7 @@ impl<R: Replicas> Cluster<R> {
     pub fn abort(&mut self, number: u32) -> Result<(), Refusal>
         ensures answer { told result ≡ abort_reply (state_of R.Replicas.catalogues self.old) number }
         ensures after { state_of R.Replicas.catalogues self.new ≡ abort_after (state_of R.Replicas.catalogues self.old) number }
-        ensures kept { R.Replicas.lents self.new.replicas ≡ R.Replicas.lents self.old.replicas }
+        ensures kept { Keeps R.Replicas.lents self.old self.new }
     {
         self.ask(number, Operation::Abort)
     }

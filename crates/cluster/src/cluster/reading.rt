@@ -2,7 +2,7 @@ ghost use Rattle.std.specs.Prelude.{◌≡◌, ◌^◌, ◌<◌, length, sum_by,
 ghost use Rattle.catalogue.specs.Refusals.{told, told_as};
 ghost use Rattle.versioning.specs.Machine.{cost_left, load as load_of, better as better_of, least, and_then, read_reply, read_as_reply, write_reply, write_after};
 ghost use Rattle.cluster.specs.Transactions.{transaction_of};
-ghost use Rattle.cluster.specs.View.{state_of, fits, choice, fetched, number_of};
+ghost use Rattle.cluster.specs.View.{state_of, Keeps, fits, choice, fetched, number_of};
 
 use super::Cluster;
 use crate::replica_index::ReplicaIndex;
@@ -89,7 +89,7 @@ impl<R: Replicas> Cluster<R> {
     pub fn read(&mut self, number: u32, table: u32, row: u32) -> Result<(Row, u32), Refusal>
         ensures answer { told result ≡ read_reply (state_of R.Replicas.catalogues self.old) number table row }
         ensures after { state_of R.Replicas.catalogues self.new ≡ state_of R.Replicas.catalogues self.old }
-        ensures kept { R.Replicas.lents self.new.replicas ≡ R.Replicas.lents self.old.replicas }
+        ensures kept { Keeps R.Replicas.lents self.old self.new }
     {
         let replica = self.replica_to_read(number, table, row)?;
         let found = self.replicas.fetch(replica.number, table, row)?;
@@ -106,7 +106,7 @@ impl<R: Replicas> Cluster<R> {
     ) -> Result<(F, u32), Refusal>
         ensures answer { told result ≡ read_as_reply (F.Family.unpacked kind) (state_of R.Replicas.catalogues self.old) number table row }
         ensures after { state_of R.Replicas.catalogues self.new ≡ state_of R.Replicas.catalogues self.old }
-        ensures kept { R.Replicas.lents self.new.replicas ≡ R.Replicas.lents self.old.replicas }
+        ensures kept { Keeps R.Replicas.lents self.old self.new }
     {
         let (found, replica) = self.read(number, table, row)?;
         let value = F::unpack(kind, found).ok_or(Refusal::NoValue)?;
@@ -124,7 +124,7 @@ impl<R: Replicas> Cluster<R> {
     ) -> Result<(), Refusal>
         ensures answer { told result ≡ write_reply (state_of R.Replicas.catalogues self.old) number table row class }
         ensures after { state_of R.Replicas.catalogues self.new ≡ write_after (state_of R.Replicas.catalogues self.old) number table row (F.Family.packed value) class }
-        ensures kept { R.Replicas.lents self.new.replicas ≡ R.Replicas.lents self.old.replicas }
+        ensures kept { Keeps R.Replicas.lents self.old self.new }
     {
         self.write(number, table, row, value.pack(), class)
     }

@@ -3,7 +3,7 @@ ghost use Rattle.catalogue.specs.Replicated.{catalogue_of};
 ghost use Rattle.versioning.specs.Serial.{InSerialOrder};
 ghost use Rattle.catalogue.specs.Refusals.{told};
 ghost use Rattle.versioning.specs.Machine.{reply, after, call_reply, call_after, start, final};
-ghost use Rattle.cluster.specs.View.{state_of};
+ghost use Rattle.cluster.specs.View.{state_of, Keeps};
 ghost use Rattle.cluster.specs.Runs.{replies, history};
 
 use super::Cluster;
@@ -19,7 +19,7 @@ impl<R: Replicas> Cluster<R> {
     pub fn call<V>(&mut self, call: Call) -> Result<Outcome<V>, Refusal>
         ensures answer { told result ≡ call_reply (state_of R.Replicas.catalogues self.old) call }
         ensures after { state_of R.Replicas.catalogues self.new ≡ call_after (state_of R.Replicas.catalogues self.old) call }
-        ensures kept { R.Replicas.lents self.new.replicas ≡ R.Replicas.lents self.old.replicas }
+        ensures kept { Keeps R.Replicas.lents self.old self.new }
     {
         match call {
             Call::Begin { modes } => {
@@ -66,7 +66,7 @@ impl<R: Replicas> Cluster<R> {
     ) -> Result<Outcome<F>, Refusal>
         ensures answer { told result ≡ reply F.Family.packed F.Family.unpacked (state_of R.Replicas.catalogues self.old) request }
         ensures after { state_of R.Replicas.catalogues self.new ≡ after F.Family.packed F.Family.unpacked (state_of R.Replicas.catalogues self.old) request }
-        ensures kept { R.Replicas.lents self.new.replicas ≡ R.Replicas.lents self.old.replicas }
+        ensures kept { Keeps R.Replicas.lents self.old self.new }
     {
         match request {
             Request::Call(call) => self.call(call),
@@ -101,7 +101,7 @@ impl<R: Replicas> Cluster<R> {
         requires { vec_len answers.old + length requests.now ≤ vec_capacity answers.old }
         ensures answers { map told answers.new.items ≡ map told answers.old.items ++ replies F.Family.packed F.Family.unpacked (state_of R.Replicas.catalogues self.old) requests.now }
         ensures after { state_of R.Replicas.catalogues self.new ≡ final F.Family.packed F.Family.unpacked (state_of R.Replicas.catalogues self.old) requests.now }
-        ensures kept { R.Replicas.lents self.new.replicas ≡ R.Replicas.lents self.old.replicas }
+        ensures kept { Keeps R.Replicas.lents self.old self.new }
     {
         for request in requests {
             answers.push_reserved(self.request(*request));

@@ -3,7 +3,7 @@ ghost use Rattle.catalogue.specs.Refusals.{told, number as number_of};
 ghost use Rattle.versioning.specs.Words.{waits};
 ghost use Rattle.versioning.specs.Machine.{finished, step_reply, step_after};
 ghost use Rattle.cluster.specs.Transactions.{transaction_of, transactions_of, may_execute_reply};
-ghost use Rattle.cluster.specs.View.{state_of, stepped_at, StepsAt, StepRefused};
+ghost use Rattle.cluster.specs.View.{state_of, Keeps, stepped_at, StepsAt, StepRefused};
 
 use super::Cluster;
 use crate::replica_index::ReplicaIndex;
@@ -42,7 +42,7 @@ impl<R: Replicas> Cluster<R> {
         requires place { (i < vec_len self.old.unfinished) × (replica.number < length (R.Replicas.catalogues self.old.replicas)) }
         requires waits { waits (slice_index_or (transactions_of self.old.unfinished.items) i finished).course replica.number ≡ true }
         ensures after { state_of R.Replicas.catalogues self.new ≡ stepped_at (state_of R.Replicas.catalogues self.old) i replica.number }
-        ensures kept { R.Replicas.lents self.new.replicas ≡ R.Replicas.lents self.old.replicas }
+        ensures kept { Keeps R.Replicas.lents self.old self.new }
     {
         let count = self.replicas.count();
         let mut versions = self.versions[replica.number as usize];
@@ -56,7 +56,7 @@ impl<R: Replicas> Cluster<R> {
     pub fn step(&mut self, number: u32, replica: u32) -> Result<(), Refusal>
         ensures answer { told result ≡ step_reply (state_of R.Replicas.catalogues self.old) number replica }
         ensures after { state_of R.Replicas.catalogues self.new ≡ step_after (state_of R.Replicas.catalogues self.old) number replica }
-        ensures kept { R.Replicas.lents self.new.replicas ≡ R.Replicas.lents self.old.replicas }
+        ensures kept { Keeps R.Replicas.lents self.old self.new }
     {
         let (i, replica) = self.may_step(number, replica)?;
         self.execute(i, replica);

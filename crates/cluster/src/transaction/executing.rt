@@ -1,4 +1,5 @@
-// How a replica executes the next operation of a transaction.
+// How a replica executes the next operation of a transaction. The replicas and the index of one go together without a struct of the two:
+// one was tried, and each of its methods has to promise too that the `&mut` in it stays.
 ghost use Rattle.std.specs.Prelude.{◌≡◌, ℕ, ◌+◌, ◌^◌, ◌<◌, true, false, not, ◌&&◌, [], length, slice_index, slice_index_or, slice_set};
 ghost use Rattle.catalogue.specs.Rows.{blank, place};
 ghost use Rattle.catalogue.specs.Replicated.{catalogue_of};
@@ -15,7 +16,6 @@ use super::{BLANK, Transaction};
 use crate::replica_index::ReplicaIndex;
 use catalogue::replicas::Replicas;
 use catalogue::row::Row;
-use catalogue::table::Table;
 use versioning::operation::Operation;
 
 // Puts the value there, and answers the row that it replaces.
@@ -69,6 +69,7 @@ impl Transaction {
         ensures rows { R.Replicas.catalogues replicas.new ≡ slice_set (R.Replicas.catalogues replicas.old) replica.number (undo ((transaction_of self.now).replaced replica.number) (catalogue_of (R.Replicas.catalogues replicas.old) replica.number)) }
         ensures kept { R.Replicas.lents replicas.new ≡ R.Replicas.lents replicas.old }
     {
+        // Not `rev()` over their places: the next place stands in `restore_newest`, so that another order is refused there.
         for turn in 0..self.executed(replica) {
             self.restore_newest(replicas, replica, turn);
         }

@@ -1,7 +1,6 @@
 // What is to be told of an operation, and of several that were asked one after the other.
 ghost use Rattle.std.specs.Prelude.{◌≡◌, ◌≤◌};
-ghost use Rattle.sequencing.specs.Modes.{some};
-ghost use Rattle.versioning.specs.Words.{is_release, is_write as is_write_of, is_write_at, released, count_writes as count_writes_of};
+ghost use Rattle.versioning.specs.Words.{is_release, is_write as is_write_of, is_write_at, count_writes as count_writes_of};
 ghost use Rattle.versioning.specs.Machine.{cost as cost_of};
 
 use catalogue::table::Table;
@@ -21,7 +20,7 @@ pub(crate) fn is_write(operation: Operation) -> bool
     }
 }
 
-fn writes_to(operation: Operation, table: Table) -> bool
+pub(crate) fn writes_to(operation: Operation, table: Table) -> bool
     ensures { result ≡ is_write_at table.number operation }
 {
     match operation {
@@ -30,25 +29,13 @@ fn writes_to(operation: Operation, table: Table) -> bool
     }
 }
 
-fn releases(operation: Operation, table: Table) -> bool
+pub(crate) fn releases(operation: Operation, table: Table) -> bool
     ensures { result ≡ is_release table.number operation }
 {
     match operation {
         Operation::Release { table: released } => table.number() == released,
         Operation::Write { .. } | Operation::Commit | Operation::Abort => false,
     }
-}
-
-pub(crate) fn any_writes_to(operations: &[Operation], table: Table) -> bool
-    ensures { result ≡ some (is_write_at table.number) operations.now }
-{
-    operations.iter().any(|o| writes_to(*o, table))
-}
-
-pub(crate) fn any_releases(operations: &[Operation], table: Table) -> bool
-    ensures { result ≡ released table.number operations.now }
-{
-    operations.iter().any(|o| releases(*o, table))
 }
 
 pub(crate) fn count_writes(operations: &[Operation]) -> usize

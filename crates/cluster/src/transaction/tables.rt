@@ -5,7 +5,7 @@ ghost use Rattle.versioning.specs.Words.{writes as writes_of, mode, released};
 ghost use Rattle.cluster.specs.Transactions.{course_of};
 
 use super::Transaction;
-use super::operations::any_releases;
+use super::operations::releases;
 use catalogue::table::Table;
 use sequencing::mode::Mode;
 
@@ -26,7 +26,7 @@ impl Transaction {
     pub(crate) fn has_asked_release(&self, table: Table) -> bool
         ensures { result ≡ released table.number (course_of self.now).asked }
     {
-        any_releases(self.asked.as_slice(), table)
+        self.releases_within(self.asked.len(), table)
     }
 
     // Whether its first operations release the table.
@@ -34,6 +34,6 @@ impl Transaction {
         requires { first ≤ length self.now.asked.items }
         ensures { result ≡ released table.number (take first self.now.asked.items) }
     {
-        any_releases(&self.asked[0..first], table)
+        self.asked[..first].iter().any(|o| releases(*o, table))
     }
 }

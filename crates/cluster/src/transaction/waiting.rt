@@ -2,14 +2,15 @@
 ghost use Rattle.std.specs.Prelude.{◌≡◌, ◌<◌, ◌≤◌, true, not, ◌&&◌, length, slice_index_or};
 ghost use Rattle.catalogue.specs.Refusals.{told};
 ghost use Rattle.sequencing.specs.declared.sequencer.Assigned.{Assigned as AssignedOf};
+ghost use Rattle.sequencing.specs.Modes.{some};
 ghost use Rattle.versioning.specs.declared.operation.Operation.{Operation as OperationOf};
-ghost use Rattle.versioning.specs.Words.{waits as waits_at, next as next_at, waiting as waiting_at, done, released, has_table};
+ghost use Rattle.versioning.specs.Words.{waits as waits_at, next as next_at, waiting as waiting_at, is_write_at, done, released, has_table};
 ghost use Rattle.versioning.specs.Machine.{admits as admits_of, held_at, qualifies_at, cost_left as cost_left_at, all_executed as all_executed_by};
 ghost use Rattle.cluster.specs.Orderly.{progress_at, executed_at};
 ghost use Rattle.cluster.specs.Transactions.{course_of, transaction_of, may_execute_reply};
 ghost use Rattle.cluster.specs.Executing.{InRange};
 
-use super::operations::any_writes_to;
+use super::operations::writes_to;
 use super::progress::Progress;
 use super::{Phase, Transaction};
 use crate::replica_index::ReplicaIndex;
@@ -90,13 +91,20 @@ impl Transaction {
         &self.asked[self.executed(replica)..]
     }
 
+    // Whether a write of it to the table waits at the replica.
+    fn has_write_waiting(&self, replica: ReplicaIndex, table: Table) -> bool
+        ensures { result ≡ some (is_write_at table.number) (waiting_at (course_of self.now) replica.number) }
+    {
+        self.waiting(replica).iter().any(|o| writes_to(*o, table))
+    }
+
     // Whether the replica can answer its read of the table.
     pub(crate) fn qualifies(&self, table: Table, replica: ReplicaIndex, versions: &[u32; 8]) -> bool
         ensures { result ≡ qualifies_at (transaction_of self.now) table.number replica.number versions.now }
     {
         let t = table.index();
         admits(self.assigned[t], versions[t])
-            && !(self.writes(table) && any_writes_to(self.waiting(replica), table))
+            && !(self.writes(table) && self.has_write_waiting(replica, table))
     }
 
     // What it still costs at the replica: 25 operations at most, each 34 at most.

@@ -4,7 +4,7 @@ ghost use Rattle.versioning.specs.FamiliesLemmas.{either_unpacks, either_packs};
 use super::Family;
 use catalogue::row::Row;
 
-// A value of one of two families; or, of the words for their kinds, one of the two.
+// A value of one of two families; or, of the words for their kinds, one of the two. Not a Result: neither is a failure.
 #[derive(Clone, Copy)]
 pub enum Either<V, W> {
     First(V),
