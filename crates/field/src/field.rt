@@ -5,7 +5,8 @@ ghost use Rattle.field.specs.Fields.{Content, shown, content_of, bytes_of, nothi
 use crate::{decimal, letters};
 use sequencing::mode::Mode;
 
-// A field of a line; a number and a word show the bytes of the sheet that they were cut from.
+// A field of a line; a number and a word show the bytes of the sheet that they were cut from. Not an Option of two: that a field is empty
+// is asked of it as a number is.
 #[derive(Clone, Copy)]
 pub enum Field<'a> {
     Empty,

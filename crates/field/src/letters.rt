@@ -3,6 +3,7 @@ ghost use Rattle.field.specs.Letters.{mode_of, declaration_of};
 
 use sequencing::mode::Mode;
 
+// The mode of a letter. No `TryFrom`, whose error nobody would read.
 fn mode(letter: u8) -> Option<Mode>
     ensures { result ≡ mode_of letter }
 {
