@@ -33,7 +33,8 @@ pub trait Replicas {
         ensures kept { lents self.new ≡ lents self.old };
 }
 
-// One impl for each size: no impl is over tuples of every size, and a nest of pairs is not the tuple that a caller has.
+// One impl for each size: no impl is over tuples of every size, and a nest of pairs is not the tuple that a caller has. A store is chosen twice
+// in each, since no function may hand out a `dyn Store`.
 impl<A: Store> Replicas for (A,) {
     ghost catalogues = { λ s. A.Store.rows s.0 ∷ [] };
 

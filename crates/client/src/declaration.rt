@@ -3,7 +3,7 @@ ghost use Rattle.catalogue.specs.Refusals.{told};
 ghost use Rattle.client.specs.Declarations.{nothing_declared, mode_for, add_reply, add_after};
 
 use catalogue::refusal::Refusal;
-use catalogue::row::TABLES;
+use catalogue::table::Table;
 use sequencing::mode::Mode;
 
 // How a client is going to use a table.
@@ -43,14 +43,11 @@ impl Declaration {
         ensures answer { told result ≡ add_reply self.old.modes table }
         ensures after { self.new.modes ≡ add_after self.old.modes table access }
     {
-        // By its index, since `get_mut` promises nothing of the modes once one of them is given back.
-        if table >= TABLES {
-            return Err(Refusal::TableOutOfRange);
-        }
-        if self.modes[table as usize].declares() {
+        let table = Table::new(table)?;
+        if self.modes[table.index()].declares() {
             return Err(Refusal::TableRepeated);
         }
-        self.modes[table as usize] = access.into();
+        self.modes[table.index()] = access.into();
         Ok(())
     }
 

@@ -97,7 +97,7 @@ impl Ticket {
         cluster.release(self.number, table)
     }
 
-    // The row that the value packs into is written. A row is no kind of its own, so this is not the one `write`.
+    // The row that the value packs into is written. The machine has both writes and both reads, so a ticket has.
     pub fn write_as<R: Replicas, F: Family>(
         &self,
         cluster: &mut Cluster<R>,

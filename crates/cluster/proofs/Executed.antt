@@ -12,7 +12,7 @@ use Rattle.versioning.specs.Words.{updated, next}
 use Rattle.versioning.specs.Machine.{undo, rows_after, cost}
 use Rattle.cluster.specs.declared.transaction.Transaction.{Transaction}
 use Rattle.cluster.specs.declared.transaction.progress.Progress.{Progress}
-use Rattle.cluster.specs.Orderly.{progress_at, executed_at, Priced}
+use Rattle.cluster.specs.Orderly.{progress_at, executed_at, Spent}
 use Rattle.cluster.specs.Transactions.{replaced_by, replaced_rows, course_of, transaction_of}
 use Rattle.cluster.specs.Executing.{replaced_row}
 
@@ -75,12 +75,12 @@ module _ (x : Transaction) (j : ℕ) (old : Row) (p : Progress) (there : j < len
   within_now l =
       each_now (λ q. length q.replaced.items ≤ length x.asked.items) (omega (arith, ap length is, length_push (progress_at x.progress j).replaced.items old)) x.within
 
-  pub priced_now : executed_at x.progress j < length x.asked.items → p.cost ≡ (progress_at x.progress j).cost + cost (next (course_of x) j) → Priced now x.asked.items
-  priced_now l e =
+  pub spent_now : executed_at x.progress j < length x.asked.items → p.cost ≡ (progress_at x.progress j).cost + cost (next (course_of x) j) → Spent now x.asked.items
+  spent_now l e =
       let n = executed_at x.progress j in
       let more : length p.replaced.items ≡ n + 1 = ap length is ∙ length_push (progress_at x.progress j).replaced.items old in
       each_now (λ q. q.cost ≡ sum_by cost (take (length q.replaced.items) x.asked.items))
-      (e ∙ ap (λ s. s + cost (next (course_of x) j)) (x.priced j) ∙ sym (sum_by_more cost x.asked.items n Operation.Commit l) ∙ ap (λ k. sum_by cost (take k x.asked.items)) (sym more)) x.priced
+      (e ∙ ap (λ s. s + cost (next (course_of x) j)) (x.spent j) ∙ sym (sum_by_more cost x.asked.items n Operation.Commit l) ∙ ap (λ k. sum_by cost (take k x.asked.items)) (sym more)) x.spent
 
 -- the catalogues cs with rows put back at j
 abbrev pub undone : List (List Row) → ℕ → List (ℕ × Row) → List (List Row)

@@ -7,7 +7,7 @@ use Rattle.std.proofs.lemmas.List.Sums.{sum_by-take-drop, sum_by-cons}
 use Rattle.versioning.specs.declared.operation.Operation.{Operation}
 use Rattle.versioning.specs.Machine.{cost, costs, cost_left}
 use Rattle.cluster.specs.declared.transaction.Transaction.{Transaction}
-use Rattle.cluster.specs.Orderly.{progress_at, executed_at, Priced}
+use Rattle.cluster.specs.Orderly.{progress_at, executed_at, Spent}
 use Rattle.cluster.specs.Transactions.{transaction_of}
 use Rattle.cluster.proofs.Asked.{most_asked}
 
@@ -41,14 +41,14 @@ module _ (x : Transaction) where
   -- the cost of what a replica has executed, and of what it has left
   pub left_is : (j : ℕ) → (progress_at x.progress j).cost + cost_left (transaction_of x) j ≡ x.cost
   left_is j =
-      ap (λ s. s + cost_left (transaction_of x) j) (x.priced j)
+      ap (λ s. s + cost_left (transaction_of x) j) (x.spent j)
       ∙ sum_by-take-drop cost x.asked.items (executed_at x.progress j)
       ∙ sym x.summed
 
   -- with one operation more asked, what is executed costs what it did
-  pub priced_asked : (op : Operation) → Priced x.progress (x.asked.items ++ (op ∷ []))
-  priced_asked op j =
-      x.priced j ∙ ap (sum_by cost) (sym (take-append-le (executed_at x.progress j) x.asked.items (op ∷ []) (x.within j)))
+  pub spent_asked : (op : Operation) → Spent x.progress (x.asked.items ++ (op ∷ []))
+  spent_asked op j =
+      x.spent j ∙ ap (sum_by cost) (sym (take-append-le (executed_at x.progress j) x.asked.items (op ∷ []) (x.within j)))
 
 -- what transactions cost together at a replica, of which a cluster has 16 at most
 pub left_most : (xs : List Transaction) (j : ℕ) → sum_by (λ x. cost_left (transaction_of x) j) xs ≤ length xs * 850

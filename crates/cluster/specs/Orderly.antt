@@ -51,5 +51,5 @@ abbrev pub executed_at : List Progress → ℕ → ℕ
 executed_at ps j = length (progress_at ps j).replaced.items
 
 -- Each replica has what the operations that it has executed cost together.
-abbrev pub Priced : List Progress → List Operation → Type 0
-Priced ps ops = (j : ℕ) → (progress_at ps j).cost ≡ sum_by cost (take (executed_at ps j) ops)
+abbrev pub Spent : List Progress → List Operation → Type 0
+Spent ps ops = (j : ℕ) → (progress_at ps j).cost ≡ sum_by cost (take (executed_at ps j) ops)

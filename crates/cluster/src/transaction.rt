@@ -1,7 +1,7 @@
 ghost use Rattle.std.specs.Prelude.{◌≡◌, ℕ, ◌≤◌, true, length, sum_by};
 ghost use Rattle.versioning.specs.Machine.{cost as cost_of};
 ghost use Rattle.versioning.specs.Words.{count_writes, ended as ended_by};
-ghost use Rattle.cluster.specs.Orderly.{orderly, tally, is_ended, executed_at, Priced};
+ghost use Rattle.cluster.specs.Orderly.{orderly, tally, is_ended, executed_at, Spent};
 
 use crate::transaction::progress::Progress;
 use arrayvec::ArrayVec;
@@ -18,7 +18,7 @@ pub mod progress;
 pub mod tables;
 pub mod waiting;
 
-// Kept in place of a replaced row where an operation replaces none.
+// Kept in place of a replaced row where an operation replaces none. No Option: the operation itself tells whether it replaced one.
 const BLANK: Row = Row { high: 0, low: 0 };
 
 // A transaction is open until its commit or abort is accepted.
@@ -29,7 +29,8 @@ pub enum Phase {
 }
 
 // An unfinished transaction: what it declared, was assigned and asked, what it asked costs together, and how far each replica is with it.
-// It asks at most 25 operations: 16 writes, a release of each table, and an end.
+// It asks at most 25 operations: 16 writes, a release of each table, and an end. Its two lists over the tables are as declared and as begun: it
+// can be begun with any two.
 #[derive(Drop)]
 pub struct Transaction {
     number: u32,
@@ -45,5 +46,5 @@ pub struct Transaction {
     ghost tallied: { length asked.items ≤ tally asked.items },
     ghost within: { (j : ℕ) → executed_at progress j ≤ length asked.items },
     ghost summed: { cost ≡ sum_by cost_of asked.items },
-    ghost priced: { Priced progress asked.items },
+    ghost spent: { Spent progress asked.items },
 }

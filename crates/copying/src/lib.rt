@@ -1,4 +1,5 @@
-// Copying: the rows of the first replica to every other, as at the opening of a cluster.
+// Copying: the rows of the first replica to every other, as at the opening of a cluster. What is lent stays, which each function says for
+// itself: it is of two moments, so that no value holds it.
 #![tactic(auto)]
 
 ghost use Rattle.std.specs.Prelude.{◌≡◌, ◌≤◌, length, replicate};

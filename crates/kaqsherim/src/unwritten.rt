@@ -20,7 +20,7 @@ impl From<AllocError> for Unwritten {
 }
 
 // The number that a caller outside Rattle is answered: the report's length, or a refusal's, which is below zero.
-// C is answered numbers alone, so it stays one.
+// C is answered numbers alone, so it stays one, and that a length fits is promised and asked as a bound.
 pub(crate) fn number(answer: Result<usize, Unwritten>) -> i64
     requires { IfOk answer (λ n. n < 2 ^ 63) }
     ensures { result ≡ number_of answer }

@@ -34,11 +34,9 @@ impl Line {
 fn row_in(lines: &[Option<Line>; 16], place: Place) -> Option<Row>
     ensures { result ≡ cached lines.now place.index }
 {
-    let line = lines[place.index() % LINES];
-    match line {
-        Some(line) if line.has(place) => Some(line.row),
-        _ => None,
-    }
+    lines[place.index() % LINES]
+        .filter(|line| line.has(place))
+        .map(|line| line.row)
 }
 
 // Line k goes below, unless it is empty.

@@ -112,7 +112,8 @@ impl<'a> Fields<'a> {
         Ok(Call::Read { number, table, row })
     }
 
-    // Release and step, and commit and abort, differ in the call alone: a parameter that makes the call would be longer.
+    // Release and step, and commit and abort, differ in the call alone, as their forms do, by which each is promised: what two of them share
+    // would answer numbers that no form tells.
     fn release(&self) -> Result<Call, SheetRefusal>
         ensures { told result ≡ form_reply release_form self.now.line (behind self.now) }
     {

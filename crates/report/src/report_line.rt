@@ -1,12 +1,10 @@
 ghost use Rattle.std.specs.Prelude.{◌≡◌, [], ◌∷◌, ◌++◌, OnOk};
 ghost use Rattle.catalogue.specs.Refusals.{told, number as number_of};
-ghost use Rattle.line.specs.Refusals.{field_of};
 ghost use Rattle.report.specs.Lines.{named as named_by, stepped as stepped_by, blank as blank_line, answered as answered_line, unread as unread_line, fields_of, behind_the_line, line_text, cell_text};
 
 use catalogue::refusal::Refusal;
 use itoa::Buffer;
 use sequencing::call::Call;
-use sheet::refusal::SheetRefusal;
 use std::alloc::AllocError;
 use versioning::request::Outcome;
 
@@ -78,13 +76,13 @@ impl ReportLine {
     }
 
     // A line that was refused as it was read: its field stands under low.
-    pub fn unread(refused: SheetRefusal) -> ReportLine
-        ensures { fields_of result ≡ unread_line (number_of refused.refusal) refused.line (field_of refused.column) }
+    pub fn unread(refusal: Refusal, line: u32, field: u32) -> ReportLine
+        ensures { fields_of result ≡ unread_line (number_of refusal) line field }
     {
         ReportLine {
-            refusal: Some(refused.refusal),
-            low: Some(u64::from(refused.field())),
-            ..ReportLine::blank(refused.line)
+            refusal: Some(refusal),
+            low: Some(u64::from(field)),
+            ..ReportLine::blank(line)
         }
     }
 
@@ -139,7 +137,7 @@ impl ReportLine {
         ]
     }
 
-    // Appends the line and a line feed to the text.
+    // Appends the line and a line feed to the text. Not by `Display`: the formatter took two thirds of a run's instructions.
     pub(crate) fn append_to(&self, text: &mut Vec<u8>) -> Result<(), AllocError>
         ensures { OnOk result (text.new.items ≡ text.old.items ++ (line_text (fields_of self.now) ++ (10 ∷ []))) }
     {

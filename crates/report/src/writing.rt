@@ -26,7 +26,7 @@ pub(crate) fn write_lines(
     for reading in entries {
         let next = match *reading {
             Ok(call) => ReportLine::answered(line, call, *answers.next().unwrap()),
-            Err(refused) => ReportLine::unread(refused),
+            Err(refused) => ReportLine::unread(refused.refusal, refused.line, refused.field()),
         };
         next.append_to(out)?;
         line = line.saturating_add(1);

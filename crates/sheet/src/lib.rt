@@ -6,5 +6,6 @@ pub mod reader;
 pub mod refusal;
 mod rewind;
 
-// Whoever reads sheets needs to name no other crate.
+// Fields and refusals' columns are told by these.
 pub use field::field::Field;
+pub use line::column::Column;

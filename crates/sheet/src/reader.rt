@@ -14,7 +14,8 @@ const MOST_BYTES: usize = 65_536;
 
 const NAMES: &[u8] = b"call,number,place,row,high,low,class";
 
-// Reads a lent sheet line by line: where the next line begins, and its number, counted from 1.
+// Reads a lent sheet line by line: where the next line begins, and its number, counted from 1. A place, and not the text that is left, since a
+// guard puts the place back.
 #[derive(Drop)]
 pub struct Reader<'a> {
     sheet: &'a [u8],

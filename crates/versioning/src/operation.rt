@@ -1,6 +1,6 @@
 use catalogue::row::Row;
 
-// What a transaction asked, and each replica executes in the order asked.
+// What a transaction asked, and each replica executes in the order asked. A vector of a fixed capacity wants a default for its free places.
 #[derive(Clone, Copy, Default)]
 pub enum Operation {
     #[default]

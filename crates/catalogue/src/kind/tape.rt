@@ -47,6 +47,7 @@ impl Kind for Tape {
                 job: (low / JOB) as u32,
                 since: (low % JOB) as u32,
             }),
+            // By the bound that the day of a holding has too, and not by `try_from`.
             (2, from) if from < JOB => Some(Tape::Reusable { from: from as u32 }),
             _ => None,
         }

@@ -63,6 +63,7 @@ impl<R: Replicas> Cluster<R> {
     fn choose(&self, transaction: &Transaction, table: Table) -> Option<ReplicaIndex>
         ensures { number_of result ≡ choice (state_of R.Replicas.catalogues self.now) (transaction_of transaction.now) table.number }
     {
+        // Not `min_by_key`, which does not promise that of equals the lowest is chosen.
         let mut best = None;
         for replica in 0..self.replicas.count() {
             best = self.better(transaction, table, ReplicaIndex { number: replica }, best);
@@ -113,7 +114,7 @@ impl<R: Replicas> Cluster<R> {
         Ok((value, replica))
     }
 
-    // The row that the value packs into is written.
+    // The row that the value packs into is written. The machine has both writes and both reads, so a cluster has.
     pub fn write_as<F: Family>(
         &mut self,
         number: u32,

@@ -58,7 +58,8 @@ impl Transaction {
         Ok(table)
     }
 
-    // This and the next two are asked of an open transaction alone: `ask` matches its state and the call first.
+    // What may be asked is checked for an open transaction alone; a type for one would be taken apart in `ask`, which matches the state and the
+    // call together.
     fn may_write(&self, table: u32, row: u32, class: u32) -> Result<(), Refusal>
         requires { self.now.phase ≡ Phase.Open }
         ensures { told result ≡ unless_refused (first (may_write (course_of self.now) table row class)) tt }

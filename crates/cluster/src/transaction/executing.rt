@@ -1,5 +1,6 @@
 // How a replica executes the next operation of a transaction. The replicas and the index of one go together without a struct of the two:
-// one was tried, and each of its methods has to promise too that the `&mut` in it stays.
+// one was tried, and each of its methods has to promise too that the `&mut` in it stays. What is lent stays, which no value can hold, since it is
+// of two moments. That a write is in range is asked here and known of each operation that a transaction asked.
 ghost use Rattle.std.specs.Prelude.{◌≡◌, ℕ, ◌+◌, ◌^◌, ◌<◌, true, false, not, ◌&&◌, [], length, slice_index, slice_index_or, slice_set};
 ghost use Rattle.catalogue.specs.Rows.{blank, place};
 ghost use Rattle.catalogue.specs.Replicated.{catalogue_of};
@@ -69,7 +70,7 @@ impl Transaction {
         ensures rows { R.Replicas.catalogues replicas.new ≡ slice_set (R.Replicas.catalogues replicas.old) replica.number (undo ((transaction_of self.now).replaced replica.number) (catalogue_of (R.Replicas.catalogues replicas.old) replica.number)) }
         ensures kept { R.Replicas.lents replicas.new ≡ R.Replicas.lents replicas.old }
     {
-        // Not `rev()` over their places: the next place stands in `restore_newest`, so that another order is refused there.
+        // Not `rev()` over their places: by a rule of the project a wrong order is refused in the code, and the order of this loop is proved by hand.
         for turn in 0..self.executed(replica) {
             self.restore_newest(replicas, replica, turn);
         }
@@ -102,7 +103,7 @@ impl Transaction {
         }
     }
 
-    // One operation more is executed at the replica, and the row that it replaced there is kept.
+    // One operation more is executed at the replica, and the row that it replaced there is kept. It takes no `NextOperation`, which borrows it.
     fn advance(&mut self, replica: ReplicaIndex, old: Row)
         requires { waits_at (course_of self.old) replica.number ≡ true }
         ensures { transaction_of self.new ≡ advanced (transaction_of self.old) replica.number old }

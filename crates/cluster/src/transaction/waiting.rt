@@ -123,6 +123,7 @@ impl Transaction {
         if let Phase::Open = self.phase {
             return false;
         }
+        // Not `all` over the range: the closure asks that its number is below four, which the range does not tell it.
         for number in 0..replicas {
             if self.waits(ReplicaIndex { number }) {
                 return false;

@@ -6,6 +6,7 @@ ghost use Rattle.sequencing.specs.Sequencer.{next_at, assigned, moved_on, all_as
 use super::{Assigned, Begun, Next, Sequencer};
 use crate::mode::Mode;
 use catalogue::refusal::Refusal;
+use catalogue::table::Table;
 use std::array;
 
 // As many transactions may begin over the life of a sequencer.
@@ -74,10 +75,8 @@ impl Sequencer {
     pub fn next(&self, table: u32) -> Result<Next, Refusal>
         ensures { told result ≡ next_reply (counts_of self.now) table }
     {
-        if table >= 8 {
-            return Err(Refusal::TableOutOfRange);
-        }
-        Ok(self.next[table as usize])
+        let table = Table::new(table)?;
+        Ok(self.next[table.index()])
     }
 
     // How many transactions have begun.

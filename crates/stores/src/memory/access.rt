@@ -42,6 +42,7 @@ impl Memory {
         self.rows[place.index()]
     }
 
+    // That rows past the 512th stay is of two moments, so that no value holds it, here and where changes are written.
     #[tactic(auto, using(crate::proofs::HeldRows::held_rows))]
     pub(crate) fn set_row(&mut self, place: Place, row: Row)
         ensures image { image self.new ≡ slice_set (image self.old) place.index row }

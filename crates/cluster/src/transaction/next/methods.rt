@@ -25,6 +25,7 @@ impl Transaction {
     pub(crate) fn next(&self, replica: ReplicaIndex) -> Option<NextOperation<'_>>
         ensures { MatchOption result (waits_at (course_of self.now) replica.number ≡ false) (λ next. (next.transaction.now ≡ self.now) × (next.replica ≡ replica)) }
     {
+        // Not `then`, whose closure would not know that one waits.
         if self.waits(replica) {
             Some(NextOperation {
                 transaction: self,

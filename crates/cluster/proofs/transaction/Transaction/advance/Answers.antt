@@ -8,7 +8,7 @@ use Rattle.cluster.specs.Transactions.{course_of}
 use Rattle.cluster.proofs.Asked.{most_asked}
 use Rattle.cluster.proofs.Priced.{all_most, left_is}
 use Rattle.cluster.proofs.Waiting.{waits_below}
-use Rattle.cluster.proofs.Executed.{executed_now, replaced_now, within_now, priced_now}
+use Rattle.cluster.proofs.Executed.{executed_now, replaced_now, within_now, spent_now}
 use Rattle.cluster.proofs.transaction.Transaction.advance.Goals as goal
 
 pub record-requires : goal.record-requires
@@ -38,7 +38,7 @@ invariant_of-self c =
       tallied = x.tallied;
       within = within_now x j c.args.old p there more (waits_below x j c.requires);
       summed = x.summed;
-      priced = priced_now x j c.args.old p there more (waits_below x j c.requires) (c.record.ensures.cost ∙ ap₂ ◌+◌ (ap (λ (q : Progress). q.cost) at) price);
+      spent = spent_now x j c.args.old p there more (waits_below x j c.requires) (c.record.ensures.cost ∙ ap₂ ◌+◌ (ap (λ (q : Progress). q.cost) at) price);
     }
 
 pub returns : goal.returns

@@ -5,10 +5,10 @@ use Rattle.catalogue.specs.Refusals.{first, unless_refused}
 use Rattle.versioning.specs.declared.operation.Operation.{Operation}
 use Rattle.versioning.specs.Machine.{cost}
 use Rattle.versioning.specs.Words.{is_end, ended, count_writes}
-use Rattle.cluster.specs.Orderly.{is_ended, orderly, tally, progress_at, executed_at, Priced}
+use Rattle.cluster.specs.Orderly.{is_ended, orderly, tally, progress_at, executed_at, Spent}
 use Rattle.cluster.specs.Transactions.{course_of, may_ask, replaced_rows}
 use Rattle.cluster.proofs.Asked.{room, phased_now, orderly_now, modest_now, tallied_now, after_now}
-use Rattle.cluster.proofs.Priced.{all_most, priced_asked}
+use Rattle.cluster.proofs.Priced.{all_most, spent_asked}
 use Rattle.cluster.proofs.transaction.Transaction.ask.Goals as goal
 
 pub push-requires : goal.push-requires
@@ -30,7 +30,7 @@ invariant_of-self c =
       tallied = subst (λ (ops : List Operation). length ops ≤ tally ops) items (tallied_now x op accepted);
       within = (λ j. omega (arith, x.within j, ap length c.push.ensures.items, length_push x.asked.items op));
       summed = omega (arith, ap (sum_by cost) c.push.ensures.items, sum_by_push cost x.asked.items op, x.summed, c.cost.ensures.is);
-      priced = subst (Priced x.progress) items (priced_asked x op);
+      spent = subst (Spent x.progress) items (spent_asked x op);
     }
 
 pub overflow_add-self : goal.overflow_add-self
