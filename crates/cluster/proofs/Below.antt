@@ -33,9 +33,6 @@ module _ (p : ℕ → Bool) where
   pub below_hit : (n i : ℕ) → i < n → true ≡ p i → true ≡ some_below n p
   below_hit n i l e = sym (passed n i l (sym e))
 
-  pub below_more : (i : ℕ) → some_below i p ≡ false → false ≡ p i → some_below (i + 1) p ≡ false
-  below_more i h e = ap (λ n. some_below n p) (add-one i) ∙ or_from (p i) (some_below i p) (sym e) h
-
   -- the numbers below n, one after the other
   numbers_some : (n : ℕ) → list_any p (range_with_len 0 n) ≡ some_below n p
   numbers_some zero = refl

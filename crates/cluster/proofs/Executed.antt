@@ -44,14 +44,6 @@ module _ (x : Transaction) (j : ℕ) (old : Row) (p : Progress) (there : j < len
   progress_is : (i : ℕ) → progress_at now i ≡ updated j p (progress_at x.progress) i
   progress_is i = updated_is x.progress j p (record { replaced = record { items = [] }; cost = 0 }) there i
 
-  -- what holds of the others, and of the one at j as it is now
-  pub each_now : (P : Progress → Type 0) → P p → ((i : ℕ) → P (progress_at x.progress i)) → (i : ℕ) → P (progress_at now i)
-  each_now P new all i = subst P (sym (progress_is i)) (go (eqb i j))
-    where
-      go : (b : Bool) → P (cond b p (progress_at x.progress i))
-      go true = new
-      go false = all i
-
   pub executed_now : executed_at now ≡ updated j (executed_at x.progress j + 1) (executed_at x.progress)
   executed_now =
       fun_ext (λ i. ap (λ (q : Progress). length q.replaced.items) (progress_is i) ∙ go (eqb i j) (progress_at x.progress i))
@@ -70,35 +62,9 @@ module _ (x : Transaction) (j : ℕ) (old : Row) (p : Progress) (there : j < len
           ∙ replaced_more x.asked.items (progress_at x.progress j).replaced.items old
       go false q = refl
 
-  -- the transaction's facts of them
-  pub within_now : executed_at x.progress j < length x.asked.items → (i : ℕ) → executed_at now i ≤ length x.asked.items
-  within_now l =
-      each_now (λ q. length q.replaced.items ≤ length x.asked.items) (omega (arith, ap length is, length_push (progress_at x.progress j).replaced.items old)) x.within
-
-  pub spent_now : executed_at x.progress j < length x.asked.items → p.cost ≡ (progress_at x.progress j).cost + cost (next (course_of x) j) → Spent now x.asked.items
-  spent_now l e =
-      let n = executed_at x.progress j in
-      let more : length p.replaced.items ≡ n + 1 = ap length is ∙ length_push (progress_at x.progress j).replaced.items old in
-      each_now (λ q. q.cost ≡ sum_by cost (take (length q.replaced.items) x.asked.items))
-      (e ∙ ap (λ s. s + cost (next (course_of x) j)) (x.spent j) ∙ sym (sum_by_more cost x.asked.items n Operation.Commit l) ∙ ap (λ k. sum_by cost (take k x.asked.items)) (sym more)) x.spent
-
 -- the catalogues cs with rows put back at j
 abbrev pub undone : List (List Row) → ℕ → List (ℕ × Row) → List (List Row)
 undone cs j kept = set cs j (undo kept (catalogue_of cs j))
-
--- what is no write replaced nothing
-pub nothing_undone : (cs : List (List Row)) (j : ℕ) (op : Operation) (old : Row) → ((t r : ℕ) (v : Row) (k : ℕ) → op ≡ Operation.Write t r v k → ⊥) → cs ≡ undone cs j (replaced_by op old [])
-nothing_undone cs j (Operation.Write t r v k) old no_write = absurd (no_write t r v k refl)
-nothing_undone cs j (Operation.Release t) old no_write = sym (set-get_or cs j [])
-nothing_undone cs j Operation.Commit old no_write = sym (set-get_or cs j [])
-nothing_undone cs j Operation.Abort old no_write = sym (set-get_or cs j [])
-
--- a release and a commit change no row
-pub idle : (cs : List (List Row)) (j : ℕ) (op : Operation) (kept : List (ℕ × Row)) → ((t : ℕ) × (op ≡ Operation.Release t)) ⊎ (op ≡ Operation.Commit) → (cs ≡ set cs j (rows_after op kept (catalogue_of cs j))) × (blank ≡ replaced_row op (catalogue_of cs j))
-idle cs j op kept (inl r) =
-    (sym (set-get_or cs j []) ∙ ap (λ o. set cs j (rows_after o kept (catalogue_of cs j))) (sym r.1), ap (λ o. replaced_row o (catalogue_of cs j)) (sym r.1))
-idle cs j op kept (inr e) =
-    (sym (set-get_or cs j []) ∙ ap (λ o. set cs j (rows_after o kept (catalogue_of cs j))) (sym e), ap (λ o. replaced_row o (catalogue_of cs j)) (sym e))
 
 -- undoing one, then the others
 undo_more : (op : Operation) (old : Row) (rest : List (ℕ × Row)) (rows : List Row) → undo (replaced_by op old rest) rows ≡ undo rest (undo (replaced_by op old []) rows)
@@ -130,6 +96,3 @@ module _ (cs : List (List Row)) (j : ℕ) (ops : List Operation) (olds : List Ro
             ∙ undo_turn n l
             ∙ ap (λ (k : ℕ). undone cs j (replaced_rows ops olds k)) with_it,
       )
-
-  pub nothing_left : (n : ℕ) → 0 ≡ n → cs ≡ undone cs j (replaced_rows ops olds n)
-  nothing_left n z = sym (set-get_or cs j []) ∙ ap (λ (k : ℕ). undone cs j (replaced_rows ops olds k)) z

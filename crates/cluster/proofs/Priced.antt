@@ -58,11 +58,3 @@ left_most xs j =
     all_from : (ys : List Transaction) → AllByRecursion (λ x. cost_left (transaction_of x) j ≤ 850) ys
     all_from [] = tt
     all_from (y ∷ ys) = (omega (arith, left_is y j, all_most y, most_asked y), all_from ys)
-
--- the same, of the transactions as the machine has them
-pub left_shown : (xs : List Transaction) (j : ℕ) → sum_by (λ x. cost_left (transaction_of x) j) xs ≡ sum_by (λ u. cost_left u j) (map transaction_of xs)
-left_shown [] j = refl
-left_shown (x ∷ xs) j =
-    sum_by-cons (λ y. cost_left (transaction_of y) j) x xs
-    ∙ ap (λ n. cost_left (transaction_of x) j + n) (left_shown xs j)
-    ∙ sym (sum_by-cons (λ u. cost_left u j) (transaction_of x) (map transaction_of xs))

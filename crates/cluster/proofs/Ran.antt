@@ -23,22 +23,6 @@ module _ {V K : Type 0} (pack : V → Row) (unpack : K → Row → Option V) whe
     left : drop i qs ≡ q ∷ drop (i + 1) qs
     left = drop_more qs i q l ∙ ap (λ (x : Request V K). x ∷ drop (i + 1) qs) (sym is)
 
-    -- one answer more, behind those that are there
-    pub answers_more : (before : List (Answer V)) (a : Answer V) → a ≡ reply pack unpack s q → (before ++ a ∷ []) ++ replies pack unpack s' (drop (i + 1) qs) ≡ before ++ replies pack unpack s (drop i qs)
-    answers_more before a e =
-        append_assoc before (a ∷ []) (replies pack unpack s' (drop (i + 1) qs))
-        ∙ ap₂ (λ (x : Answer V) (t : State). before ++ (x ∷ replies pack unpack t (drop (i + 1) qs))) e later
-        ∙ ap (λ (rest : List (Request V K)). before ++ replies pack unpack s rest) (sym left)
-
-    pub final_more : final pack unpack s' (drop (i + 1) qs) ≡ final pack unpack s (drop i qs)
-    final_more = ap (λ (t : State). final pack unpack t (drop (i + 1) qs)) later ∙ ap (final pack unpack s) (sym left)
-
-  pub answers_all : (s : State) (qs : List (Request V K)) (i : ℕ) (before : List (Answer V)) → length qs ≤ i → before ≡ before ++ replies pack unpack s (drop i qs)
-  answers_all s qs i before l = sym (ap (λ (rest : List (Request V K)). before ++ replies pack unpack s rest) (drop_all i qs l) ∙ append-nil before)
-
-  pub final_all : (s : State) (qs : List (Request V K)) (i : ℕ) → length qs ≤ i → s ≡ final pack unpack s (drop i qs)
-  final_all s qs i l = sym (ap (final pack unpack s) (drop_all i qs l))
-
   -- what a run answers and leaves is in serial order
   pub in_order : (n : ℕ) (opening : List Row) (qs : List (Request V K)) (answers : List (Answer V)) (s : State) (cs : List (List Row)) (vs : List (List ℕ)) → length opening ≡ 512 → answers ≡ replies pack unpack (start n opening) qs → s ≡ final pack unpack (start n opening) qs → s.replicas ≡ paired cs vs → InSerialOrder pack unpack opening (history qs answers) cs
   in_order n opening qs answers s cs vs full a f r =

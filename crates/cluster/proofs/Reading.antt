@@ -45,31 +45,6 @@ module _ {R : Type 0} (catalogues : R → List (List Row)) (c : Cluster R) (x : 
         ∙ ap (λ (b : Bool). cond (b && ltb (weight j) (weight i)) (Some j) (Some i)) (fit ∙ sym fits_is)
         ∙ ap with_next (sym is)
 
--- what is chosen is one of the numbers
-abbrev Below : ℕ → Option ℕ → Type 0
-Below n None = Unit {0}
-Below n (Some i) = i < n
-
-module _ (f : ℕ → Bool) (weight : ℕ → ℕ) where
-  better_below : (j : ℕ) (best : Option ℕ) → Below j best → Below (suc j) (better f weight j best)
-  better_below j None p = go (f j)
-    where
-      go : (b : Bool) → Below (suc j) (cond b (Some j) None)
-      go true = omega arith
-      go false = tt
-  better_below j (Some i) p = go (f j && ltb (weight j) (weight i))
-    where
-      go : (b : Bool) → Below (suc j) (cond b (Some j) (Some i))
-      go true = omega arith
-      go false = omega arith
-
-  least_below : (n : ℕ) → Below n (least f weight n)
-  least_below zero = tt
-  least_below (suc n) = better_below n (least f weight n) (least_below n)
-
-  pub chosen_below : (n i : ℕ) → Some i ≡ least f weight n → i < n
-  chosen_below n i e = subst (Below n) (sym e) (least_below n)
-
 -- checks of which one refuses decide alone
 first_ahead : (cs ds : List (Bool × Refusal)) → eqb (first cs) 0 ≡ false → first (cs ++ ds) ≡ first cs
 first_ahead [] ds h = absurd (true≢false h)

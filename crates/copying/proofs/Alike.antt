@@ -1,8 +1,8 @@
 -- Rows copied one after the other, and replicas one after the other.
-use Rattle.std.proofs.Common.{◌≡◌, ℕ, zero, suc, ◌+◌, ◌/◌, ◌%◌, ◌<◌, ◌≤◌, ◌≢◌, Bool, cond, not, eqb, List, [], ◌∷◌, ◌++◌, length, get_or, set, take, drop, replicate, Some, None, Option, sym, refl, ap, ◌∙◌, ap₂, ⊎_elim, add-one, arith, length-set}
+use Rattle.std.proofs.Common.{◌≡◌, ℕ, zero, suc, ◌+◌, ◌/◌, ◌%◌, ◌<◌, ◌≤◌, ◌≢◌, Bool, cond, not, eqb, List, [], ◌∷◌, ◌++◌, length, get_or, set, take, drop, replicate, Some, None, Option, sym, refl, ap, ◌∙◌, ap₂, ⊎_elim, add-one, arith}
 use lib.ListN.{length-replicate}
 use Rattle.std.proofs.ByRecursion.{All-get_or}
-use Rattle.std.proofs.lemmas.List.{ext_get_or, get_or-set_same, get_or-set_other, get_or-replicate, set_past, set-set, set-get_or, take-append-drop, take_all, drop_all, append-nil}
+use Rattle.std.proofs.lemmas.List.{ext_get_or, get_or-set_same, get_or-set_other, get_or-replicate, set_past, set-set, set-get_or, take-append-drop}
 use Rattle.std.proofs.lemmas.Bool.{cases_eq, cases_lt, lt-ltb, le-ltb}
 use Rattle.catalogue.specs.declared.row.Row.{Row}
 use Rattle.catalogue.specs.declared.refusal.Refusal.{Refusal}
@@ -10,7 +10,7 @@ use Rattle.catalogue.specs.Refusals.{number, first}
 use Rattle.catalogue.specs.Rows.{blank, place, place_checks}
 use Rattle.catalogue.specs.Replicated.{Whole, catalogue_of, replica_checks, replica_fetch_reply, replica_put_after}
 use Rattle.catalogue.proofs.Placed.{passes}
-use Rattle.copying.specs.Copied.{copied_row, copied_places, copied_rows}
+use Rattle.copying.specs.Copied.{copied_row, copied_places}
 
 -- the number that the checks of a call come to
 module _ (cs : List (List Row)) (j t r : ℕ) where
@@ -84,9 +84,6 @@ mixed xs ys n e = go xs ys n e ∙ ap (λ k. take k xs ++ drop k ys) (sym (add-o
     go (x ∷ xs) (y ∷ ys) zero e = refl
     go (x ∷ xs) (y ∷ ys) (suc n) e = ap (λ (rows : List Row). x ∷ rows) (go xs ys n (omega arith))
 
-pub copied_none : (cs : List (List Row)) (to : ℕ) → cs ≡ copied_places cs to 0
-copied_none cs to = sym (set-get_or cs to [])
-
 pub copied_more : (cs : List (List Row)) (to n : ℕ) → Whole cs → copied_row (copied_places cs to n) to n ≡ copied_places cs to (n + 1)
 copied_more cs to n w =
     let from = catalogue_of cs 0 in
@@ -112,31 +109,10 @@ copied_more cs to n w =
     ∙ sym (set_past cs to (take (n + 1) from ++ drop (n + 1) own) none))
     (cases_lt to (length cs))
 
-pub copied_all : (cs : List (List Row)) (to n : ℕ) → Whole cs → 512 ≤ n → copied_places cs to n ≡ copied_rows cs to
-copied_all cs to n w all =
-    ⊎_elim
-    (λ (there : to < length cs).
-    ap (set cs to)
-    (ap₂ (λ (xs ys : List Row). xs ++ ys) (take_all n (catalogue_of cs 0) (omega (arith, full_at cs 0 w (omega arith)))) (drop_all n (catalogue_of cs to) (omega (arith, full_at cs to w there)))
-    ∙ append-nil (catalogue_of cs 0)))
-    (λ (none : length cs ≤ to). set_past cs to (take n (catalogue_of cs 0) ++ drop n (catalogue_of cs to)) none ∙ sym (set_past cs to (catalogue_of cs 0) none))
-    (cases_lt to (length cs))
-
 -- so far the replicas before one have the rows of the first
 pub record AlikeTo (before cs : List (List Row)) (to : ℕ) : Type 0 where
   pub size : length cs ≡ length before
   pub rows : (j : ℕ) → j < to → catalogue_of cs j ≡ catalogue_of before 0
-
-pub alike_more : (before cs : List (List Row)) (to : ℕ) → 0 < to → to < length cs → AlikeTo before cs to → AlikeTo before (copied_rows cs to) (to + 1)
-alike_more before cs to other there so_far =
-    record {
-      size = length-set cs to (catalogue_of cs 0) ∙ so_far.size;
-      rows = λ j l.
-          ⊎_elim
-          (λ (e : j ≡ to). ap (catalogue_of (copied_rows cs to)) e ∙ get_or-set_same cs to (catalogue_of cs 0) [] there ∙ so_far.rows 0 other)
-          (λ (ne : j ≢ to). let less : j < to = omega arith in get_or-set_other cs to j (catalogue_of cs 0) [] ne ∙ so_far.rows j less)
-          (cases_eq j to);
-    }
 
 pub alike_all : (before cs : List (List Row)) (to : ℕ) → length cs ≤ to → AlikeTo before cs to → cs ≡ replicate (length before) (catalogue_of before 0)
 alike_all before cs to all so_far =

@@ -5,7 +5,7 @@ use Rattle.std.proofs.lemmas.List.{ext_get_or, get_or-set_same, get_or-set_other
 use Rattle.std.proofs.lemmas.Bool.{cases_eq, cases_lt}
 use Rattle.catalogue.specs.declared.row.Row.{Row}
 use Rattle.catalogue.specs.Refusals.{first, unless_refused}
-use Rattle.catalogue.specs.Rows.{blank, place, place_checks, fetch_reply, put_reply, put_after}
+use Rattle.catalogue.specs.Rows.{blank, place, place_checks, fetch_reply, put_after}
 use Rattle.catalogue.proofs.Placed.{passes, no_row, put_in, put_past_row}
 use Rattle.layers.specs.Numbers.{permutation, moved, moved_row, renumbered, renumbered_full}
 use Rattle.layers.proofs.Permuted.{small, apart}
@@ -68,9 +68,6 @@ module _ (ns : List ℕ) (once : permutation ns ≡ true) (eight : length ns ≡
         ap (λ n. unless_refused n (get_or rows (place (get_or ns t 0) r) blank)) (no_row (get_or ns t 0) r below no)
         ∙ sym (ap (λ n. unless_refused n (get_or (renumbered ns rows) (place t r) blank)) (no_row t r table no)))
         (cases_lt r 64)
-
-    pub put_told_moved : put_reply (get_or ns t 0) r ≡ put_reply t r
-    put_told_moved = ap (λ n. unless_refused n tt) checked_moved
 
     pub put_moved : (v : Row) → length rows ≡ 512 → renumbered ns (put_after rows (get_or ns t 0) r v) ≡ put_after (renumbered ns rows) t r v
     put_moved v full =

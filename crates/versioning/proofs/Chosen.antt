@@ -1,5 +1,5 @@
 -- The choice of the least loaded.
-use Rattle.std.proofs.Common.{◌≡◌, ℕ, zero, suc, ◌+◌, ◌<◌, ◌≤◌, Bool, true, false, cond, not, ◌&&◌, eqb, ltb, ◌↔◌, [], ◌∷◌, length, is_some, Some, None, Option, unwrap_or, sym, refl, ap, ◌∙◌, subst, true≢false, add-one, arith}
+use Rattle.std.proofs.Common.{◌≡◌, ℕ, zero, suc, ◌<◌, ◌≤◌, Bool, true, false, cond, not, ◌&&◌, eqb, ltb, ◌↔◌, [], ◌∷◌, length, is_some, Some, None, Option, unwrap_or, sym, refl, ap, ◌∙◌, subst, true≢false, arith}
 use mathlib.Core.Bool.{false≢true}
 use Rattle.std.proofs.lemmas.Bool.{eqb-true, eqb-false, ltb-true, ltb-false, not-false}
 use Rattle.catalogue.specs.declared.row.Row.{Row}
@@ -66,10 +66,6 @@ module _ (fits : ℕ → Bool) (load : ℕ → ℕ) where
       none : (i : ℕ) → i < 0 → ⊥
       none i h = omega arith
   least_right (suc n) = better_right n (least fits load n) (least_right n)
-
-  -- one number more, as a loop counts
-  pub least_more : (j : ℕ) → least fits load (j + 1) ≡ better fits load j (least fits load j)
-  least_more j = ap (least fits load) (add-one j)
 
 -- the replica chosen, where one is
 pub chosen_right : (s : State) (k t : ℕ) → is_some (chosen s k t) ≡ true → LeastLoaded (qualifies s k t) (load s) (length s.replicas) (unwrap_or (chosen s k t) 0)

@@ -12,4 +12,3 @@ pub mod Checks
 pub mod Chosen
 pub mod Runs
 pub mod CatchingUp
-pub mod Worked

@@ -1,6 +1,6 @@
-use Rattle.std.proofs.Common.{ap, ◌∙◌, arith}
+use Rattle.std.proofs.Common.{ap, ◌∙◌}
 use Rattle.copying.specs.Copied.{copied_row}
-use Rattle.copying.proofs.Alike.{copied_more, copied_all}
+use Rattle.copying.proofs.Alike.{copied_more}
 use Rattle.copying.proofs.copy_places.Goals as goal
 
 pub loop-place-preserved : goal.loop-place-preserved
@@ -14,8 +14,3 @@ loop-place-preserved g c =
           ∙ copied_more (g.R.Replicas.catalogues before) c.args.to place (g.R.Replicas.whole before);
       kept = c.copy_row.ensures.kept ∙ c.loop-place.invariant.kept;
     }
-
-pub returns-clause-all : goal.returns-clause-all
-returns-clause-all g c l =
-    let before = c.args.replicas.now in
-    c.loop-place.invariant.rows ∙ copied_all (g.R.Replicas.catalogues before) c.args.to c.loop-place.place (g.R.Replicas.whole before) (omega arith)

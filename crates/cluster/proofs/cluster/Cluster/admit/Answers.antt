@@ -1,32 +1,14 @@
-use Rattle.std.proofs.Common.{◌≡◌, Bool, cond, eqb, List, [], ◌∷◌, ◌++◌, vec_items, sym, refl, ap, ◌∙◌, subst, arith}
+use Rattle.std.proofs.Common.{◌≡◌, cond, eqb, List, [], ◌∷◌, ◌++◌, vec_items, sym, ap, ◌∙◌, subst, arith}
 use Rattle.std.proofs.lemmas.List.{map_push}
-use Rattle.std.proofs.lemmas.Result.{err_from_is_err_and}
-use Rattle.catalogue.specs.Refusals.{number}
 use Rattle.sequencing.specs.declared.sequencer.Begun.{Begun}
 use Rattle.sequencing.specs.Sequencer.{Counts, counts_of, admitted, admitted_after, begin_refusal}
-use Rattle.versioning.specs.Machine.{Transaction as Unfinished, kept_if_refused, beginning_after}
+use Rattle.versioning.specs.Machine.{Transaction as Unfinished}
 use Rattle.cluster.specs.Transactions.{transaction_of, transactions_of, begun_as}
 use Rattle.cluster.specs.Rooms.{rising, Room}
 use Rattle.cluster.specs.View.{state_of}
-use Rattle.cluster.proofs.Answered.{accepted, refused}
+use Rattle.cluster.proofs.Answered.{accepted}
 use Rattle.cluster.proofs.Begun.{rising_push, room_push}
 use Rattle.cluster.proofs.cluster.Cluster.admit.Goals as goal
-
-pub returns-in_err-begun : goal.returns-in_err-begun
-returns-in_err-begun g c =
-    let st = state_of g.R.Replicas.catalogues c.args.self.now in
-    let modes = c.args.modes in
-    let n = begin_refusal st.counts modes in
-    let e = c.in_err-begun.ensures.answer in
-    let no = (refused n (admitted st.counts modes) (number c.in_err-begun.field-0.0) e).1 in
-    let p = err_from_is_err_and c.from_residual.result c.from_residual.ensures.1 in
-    record {
-      answer = rw (p.1, p.2) e;
-      after =
-          ap (λ (k : Counts). record { counts = k; replicas = st.replicas; unfinished = st.unfinished }) (c.begin.ensures.after ∙ ap (λ (b : Bool). cond b (admitted_after st.counts modes) st.counts) no)
-          ∙ ap (λ (b : Bool). cond b (beginning_after st modes) st) (sym no);
-      kept = refl;
-    }
 
 pub invariant_of-self-2 : goal.invariant_of-self-2
 invariant_of-self-2 g c =
@@ -49,26 +31,4 @@ invariant_of-self-2 g c =
       room = subst (λ (us : List Unfinished). Room s.versions (counts_of c.begin.new.self).next us) (sym list)
           (subst (λ (k : Counts). Room s.versions k.next (transactions_of items ++ begun_as modes begun ∷ [])) (sym counts)
           (room_push s.versions s.sequencer.next (transactions_of items) modes begun s.room));
-    }
-
-pub returns : goal.returns
-returns g c =
-    let s = c.args.self.now in
-    let st = state_of g.R.Replicas.catalogues s in
-    let modes = c.args.modes in
-    let items = vec_items s.unfinished in
-    let n = begin_refusal st.counts modes in
-    let begun = c.in_ok-begun.begun in
-    let x = c.new.result in
-    let a = accepted n (admitted st.counts modes) begun c.in_ok-begun.ensures.answer in
-    record {
-      answer = c.in_ok-begun.ensures.answer;
-      after =
-          ap (λ (k : Counts). record { counts = k; replicas = st.replicas; unfinished = transactions_of (vec_items c.push_reserved.new.self) }) (c.begin.ensures.after ∙ ap (λ k. cond (eqb k 0) (admitted_after st.counts modes) st.counts) a.0)
-          ∙ ap (λ (us : List Unfinished). record { counts = admitted_after st.counts modes; replicas = st.replicas; unfinished = us })
-          (ap transactions_of c.push_reserved.ensures.items
-          ∙ map_push transaction_of items x
-          ∙ ap (λ (u : Unfinished). transactions_of items ++ u ∷ []) (c.new.ensures ∙ ap (begun_as modes) a.1))
-          ∙ ap (λ k. kept_if_refused k st (beginning_after st modes)) (sym a.0);
-      kept = refl;
     }

@@ -10,11 +10,6 @@ use Rattle.cluster.proofs.AskedAt.{with_unfinished, asked_reply, asked_state, ri
 use Rattle.cluster.proofs.Standing.{many, shown_at}
 use Rattle.cluster.proofs.cluster.Cluster.ask.Goals as goal
 
-pub index_mut-requires : goal.index_mut-requires
-index_mut-requires g c =
-    let v = c.args.self.now.unfinished in
-    omega (arith, c.in-Some.ensures.within, many (vec_items v), v.ok.0)
-
 pub invariant_of-self : goal.invariant_of-self
 invariant_of-self g c =
     let s = c.args.self.now in

@@ -1,18 +1,9 @@
-use Rattle.std.proofs.Common.{◌≡◌, length, sym, ap, ◌∙◌, arith}
-use Rattle.versioning.specs.Machine.{least, load, better}
-use Rattle.versioning.proofs.Chosen.{least_more}
+use Rattle.std.proofs.Common.{◌≡◌, length, ap, ◌∙◌, arith}
+use Rattle.versioning.specs.Machine.{least, load}
 use Rattle.cluster.specs.Transactions.{transaction_of}
 use Rattle.cluster.specs.View.{state_of, fits}
 use Rattle.cluster.proofs.Paired.{paired_length}
 use Rattle.cluster.proofs.cluster.Cluster.choose.Goals as goal
-
-pub loop-replica-preserved : goal.loop-replica-preserved
-loop-replica-preserved g c =
-    let st = state_of g.R.Replicas.catalogues c.args.self.now in
-    let x = transaction_of c.args.transaction.now in
-    let f = fits st x c.args.table.number in
-    let j = c.loop-replica.replica in
-    c.better-best.ensures ∙ ap (better f (load st) j) c.loop-replica.invariant ∙ sym (least_more f (load st) j)
 
 pub returns : goal.returns
 returns g c =

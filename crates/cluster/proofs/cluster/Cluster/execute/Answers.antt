@@ -32,9 +32,6 @@ execute-requires g c =
           omega (arith, s.room j t lt, holder_at j t xs c.args.i x (omega (arith, within, many items)) shown held.0 held.1, s.sequencer.counted t, s.sequencer.few);
     }
 
-pub all_executed-requires : goal.all_executed-requires
-all_executed-requires g c = omega (arith, c.count-count.ensures, (g.R.Replicas.whole c.args.self.now.replicas).few)
-
 pub invariant_of-self : goal.invariant_of-self
 invariant_of-self g c =
     let s = c.args.self.now in

@@ -1,15 +1,9 @@
-use Rattle.std.proofs.Common.{◌<◌, length, vec_items, refl, arith}
+use Rattle.std.proofs.Common.{◌<◌, length, refl, arith}
 use Rattle.std.proofs.lemmas.Result.{err_from_is_err_and}
 use Rattle.sequencing.specs.Sequencer.{counts_of}
 use Rattle.cluster.proofs.Checked.{step_refused, steps_at}
 use Rattle.cluster.proofs.Paired.{paired_length}
-use Rattle.cluster.proofs.Standing.{many}
 use Rattle.cluster.proofs.cluster.Cluster.may_step.Goals as goal
-
-pub index-requires : goal.index-requires
-index-requires g c =
-    let v = c.args.self.now.unfinished in
-    omega (arith, c.in-Some.ensures.within, many (vec_items v), v.ok.0)
 
 pub invariant_of-replica : goal.invariant_of-replica
 invariant_of-replica g c =

@@ -1,4 +1,4 @@
-use Rattle.std.proofs.Common.{◌≡◌, ◌<◌, Result, Err, vec_items, ap, ◌∙◌, arith}
+use Rattle.std.proofs.Common.{◌≡◌, ◌<◌, Result, Err, ap, ◌∙◌, arith}
 use Rattle.std.proofs.lemmas.Result.{err_from_is_err_and}
 use Rattle.catalogue.specs.declared.refusal.Refusal.{Refusal}
 use Rattle.catalogue.specs.Refusals.{told_as}
@@ -8,13 +8,7 @@ use Rattle.cluster.specs.declared.replica_index.ReplicaIndex.{ReplicaIndex}
 use Rattle.cluster.specs.Transactions.{transaction_of}
 use Rattle.cluster.specs.View.{state_of, choice, fetched}
 use Rattle.cluster.proofs.Reading.{read_refused, read_answered}
-use Rattle.cluster.proofs.Standing.{many}
 use Rattle.cluster.proofs.cluster.Cluster.replica_to_read.Goals as goal
-
-pub index-transaction-requires : goal.index-transaction-requires
-index-transaction-requires g c =
-    let v = c.args.self.now.unfinished in
-    omega (arith, c.in-Some.ensures.within, many (vec_items v), v.ok.0)
 
 pub returns-in_err-table : goal.returns-in_err-table
 returns-in_err-table g c =

@@ -11,11 +11,6 @@ use Rattle.cluster.proofs.Asked.{room, phased_now, orderly_now, modest_now, tall
 use Rattle.cluster.proofs.Priced.{all_most, spent_asked}
 use Rattle.cluster.proofs.transaction.Transaction.ask.Goals as goal
 
-pub push-requires : goal.push-requires
-push-requires c =
-    let accepted : first (may_ask (course_of c.args.self.now) c.args.operation) ≡ 0 = search rules in
-    (omega arith, room c.args.self.now c.args.operation accepted)
-
 pub invariant_of-self : goal.invariant_of-self
 invariant_of-self c =
     let x = c.args.self.now in

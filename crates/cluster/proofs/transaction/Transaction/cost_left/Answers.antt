@@ -4,10 +4,6 @@ use Rattle.cluster.proofs.Asked.{most_asked}
 use Rattle.cluster.proofs.Priced.{all_most, left_is}
 use Rattle.cluster.proofs.transaction.Transaction.cost_left.Goals as goal
 
-pub overflow_sub-result : goal.overflow_sub-result
-overflow_sub-result c =
-    omega (arith, ap (λ (p : Progress). p.cost) c.progress.ensures, left_is c.args.self.now c.args.replica.number)
-
 pub returns : goal.returns
 returns c =
     let x = c.args.self.now in

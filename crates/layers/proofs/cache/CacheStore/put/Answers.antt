@@ -1,13 +1,8 @@
 use Rattle.std.proofs.Common.{◌≡◌, length, set, sym, refl, ap, ◌∙◌, rules}
-use Rattle.catalogue.proofs.Placed.{put_told_in, put_in}
+use Rattle.catalogue.proofs.Placed.{put_in}
 use Rattle.layers.specs.Lines.{overlaid}
 use Rattle.layers.proofs.Overlay.{overlay_evicted}
 use Rattle.layers.proofs.cache.CacheStore.put.Goals as goal
-
-pub returns-clause-answer : goal.returns-clause-answer
-returns-clause-answer g c =
-    let p = c.in_ok-place.ensures.found in
-    sym (put_told_in c.args.table c.args.row p.table p.row)
 
 pub returns-clause-after : goal.returns-clause-after
 returns-clause-after g c =

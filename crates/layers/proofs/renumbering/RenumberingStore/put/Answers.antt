@@ -1,19 +1,8 @@
 use Rattle.std.proofs.Common.{ap, ◌∙◌}
-use Rattle.catalogue.specs.Rows.{put_reply, put_after}
+use Rattle.catalogue.specs.Rows.{put_after}
 use Rattle.layers.specs.Numbers.{renumbered}
-use Rattle.layers.proofs.Renumbered.{put_told_moved, put_moved}
+use Rattle.layers.proofs.Renumbered.{put_moved}
 use Rattle.layers.proofs.renumbering.RenumberingStore.put.Goals as goal
-
-pub returns-clause-answer : goal.returns-clause-answer
-returns-clause-answer g c =
-    let s = c.args.self.now in
-    let ns = s.numbers.now in
-    let r = c.args.row in
-    let table = c.in_ok-table.table in
-    c.put.ensures.answer
-    ∙ ap (λ t. put_reply t r) c.of.ensures
-    ∙ put_told_moved ns.below ns.once ns.eight (g.S.Store.rows s.below) table.number r table.within
-    ∙ ap (λ t. put_reply t r) c.in_ok-table.ensures.found
 
 pub returns-clause-after : goal.returns-clause-after
 returns-clause-after g c =
