@@ -1,7 +1,7 @@
 -- The next operation of a transaction is executed at a replica: what becomes of the rows it replaced, its cost and how far each replica is.
-use Rattle.std.proofs.Common.{◌≡◌, ℕ, zero, suc, ◌+◌, ◌-◌, ◌<◌, ◌≤◌, Bool, true, false, cond, eqb, ◌⊎◌, List, [], ◌∷◌, ◌++◌, length, get_or, take, set, sum_by, sym, refl, ap, ◌∙◌, subst, ap₂, inl, inr, add-one, arith}
+use Rattle.std.proofs.Common.{◌≡◌, ℕ, zero, suc, ◌+◌, ◌-◌, ◌<◌, ◌≤◌, Bool, true, false, cond, eqb, List, [], ◌∷◌, ◌++◌, length, get_or, take, set, sum_by, sym, refl, ap, ◌∙◌, subst, ap₂, add-one, arith}
 use mathlib.Core.Path.{fun_ext}
-use Rattle.std.proofs.lemmas.List.{get_or-set_same, get_or-set_other, set-set, set-get_or, length-set, get_or_append_left, get_or_push, length_push}
+use Rattle.std.proofs.lemmas.List.{get_or-set_same, get_or-set_other, set-set, length-set, get_or_append_left, get_or_push, length_push}
 use Rattle.std.proofs.lemmas.List.Sums.{sum_by_more}
 use Rattle.std.proofs.lemmas.Bool.{eqb-true, eqb-false}
 use Rattle.catalogue.specs.declared.row.Row.{Row}
@@ -9,12 +9,11 @@ use Rattle.catalogue.specs.Rows.{blank}
 use Rattle.catalogue.specs.Replicated.{catalogue_of}
 use Rattle.versioning.specs.declared.operation.Operation.{Operation}
 use Rattle.versioning.specs.Words.{updated, next}
-use Rattle.versioning.specs.Machine.{undo, rows_after, cost}
+use Rattle.versioning.specs.Machine.{undo, cost}
 use Rattle.cluster.specs.declared.transaction.Transaction.{Transaction}
 use Rattle.cluster.specs.declared.transaction.progress.Progress.{Progress}
 use Rattle.cluster.specs.Orderly.{progress_at, executed_at, Spent}
 use Rattle.cluster.specs.Transactions.{replaced_by, replaced_rows, course_of, transaction_of}
-use Rattle.cluster.specs.Executing.{replaced_row}
 
 -- a list with one element changed, as a function
 updated_is : {A : Type 0} (xs : List A) (j : ℕ) (v d : A) → j < length xs → (i : ℕ) → get_or (set xs j v) i d ≡ updated j v (λ k. get_or xs k d) i
@@ -44,6 +43,14 @@ module _ (x : Transaction) (j : ℕ) (old : Row) (p : Progress) (there : j < len
   progress_is : (i : ℕ) → progress_at now i ≡ updated j p (progress_at x.progress) i
   progress_is i = updated_is x.progress j p (record { replaced = record { items = [] }; cost = 0 }) there i
 
+  -- what holds of the others, and of the one at j as it is now
+  pub each_now : (P : Progress → Type 0) → P p → ((i : ℕ) → P (progress_at x.progress i)) → (i : ℕ) → P (progress_at now i)
+  each_now P new all i = subst P (sym (progress_is i)) (go (eqb i j))
+    where
+      go : (b : Bool) → P (cond b p (progress_at x.progress i))
+      go true = new
+      go false = all i
+
   pub executed_now : executed_at now ≡ updated j (executed_at x.progress j + 1) (executed_at x.progress)
   executed_now =
       fun_ext (λ i. ap (λ (q : Progress). length q.replaced.items) (progress_is i) ∙ go (eqb i j) (progress_at x.progress i))
@@ -61,6 +68,18 @@ module _ (x : Transaction) (j : ℕ) (old : Row) (p : Progress) (there : j < len
           ap (λ (olds : List Row). replaced_rows x.asked.items olds (length olds)) is
           ∙ replaced_more x.asked.items (progress_at x.progress j).replaced.items old
       go false q = refl
+
+  -- the transaction's facts of them
+  pub within_now : executed_at x.progress j < length x.asked.items → (i : ℕ) → executed_at now i ≤ length x.asked.items
+  within_now l =
+      each_now (λ q. length q.replaced.items ≤ length x.asked.items) (omega (arith, ap length is, length_push (progress_at x.progress j).replaced.items old)) x.within
+
+  pub spent_now : executed_at x.progress j < length x.asked.items → p.cost ≡ (progress_at x.progress j).cost + cost (next (course_of x) j) → Spent now x.asked.items
+  spent_now l e =
+      let n = executed_at x.progress j in
+      let more : length p.replaced.items ≡ n + 1 = ap length is ∙ length_push (progress_at x.progress j).replaced.items old in
+      each_now (λ q. q.cost ≡ sum_by cost (take (length q.replaced.items) x.asked.items))
+      (e ∙ ap (λ s. s + cost (next (course_of x) j)) (x.spent j) ∙ sym (sum_by_more cost x.asked.items n Operation.Commit l) ∙ ap (λ k. sum_by cost (take k x.asked.items)) (sym more)) x.spent
 
 -- the catalogues cs with rows put back at j
 abbrev pub undone : List (List Row) → ℕ → List (ℕ × Row) → List (List Row)

@@ -1,6 +1,6 @@
 -- A run, request by request.
-use Rattle.std.proofs.Common.{◌≡◌, ℕ, ◌+◌, ◌<◌, ◌≤◌, List, [], ◌∷◌, ◌++◌, length, get_or, drop, Option, sym, refl, ap, ◌∙◌, subst, ap₂, append_assoc, append-nil}
-use Rattle.std.proofs.lemmas.List.{drop_more, drop_all}
+use Rattle.std.proofs.Common.{◌≡◌, ℕ, ◌+◌, ◌<◌, List, [], ◌∷◌, length, get_or, drop, Option, sym, refl, ap, ◌∙◌, subst}
+use Rattle.std.proofs.lemmas.List.{drop_more}
 use Rattle.catalogue.specs.declared.row.Row.{Row}
 use Rattle.versioning.specs.declared.request.Request.{Request}
 use Rattle.versioning.specs.Machine.{State, Answer, History, rows_of, start, reply, after, answered, final}

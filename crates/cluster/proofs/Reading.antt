@@ -1,5 +1,5 @@
 -- The replica that answers a read, and what the read answers.
-use Rattle.std.proofs.Common.{◌≡◌, ℕ, zero, suc, ◌<◌, Bool, true, false, cond, not, ◌&&◌, eqb, ltb, List, [], ◌∷◌, ◌++◌, length, get_or, is_some, Some, None, vec_items, Option, unwrap_or, sym, refl, ap, ◌∙◌, subst, true≢false, arith}
+use Rattle.std.proofs.Common.{◌≡◌, ℕ, ◌<◌, Bool, true, false, cond, not, ◌&&◌, eqb, ltb, List, [], ◌∷◌, ◌++◌, length, get_or, is_some, Some, None, vec_items, Option, unwrap_or, sym, refl, ap, ◌∙◌, true≢false, arith}
 use Rattle.std.proofs.lemmas.Bool.{lt-ltb}
 use Rattle.catalogue.specs.declared.row.Row.{Row}
 use Rattle.catalogue.specs.declared.refusal.Refusal.{Refusal}
@@ -8,7 +8,7 @@ use Rattle.catalogue.specs.Refusals.{number, first, unless_refused, told_as}
 use Rattle.catalogue.specs.Replicated.{catalogue_of, replica_checks}
 use Rattle.catalogue.specs.Rows.{blank, place}
 use Rattle.sequencing.specs.Sequencer.{counts_of}
-use Rattle.versioning.specs.Machine.{State, Replica, Transaction, better, least, load, qualifies_at, course, replica, transaction, chosen, may_read, reading_checks, read_checks, found, read_reply, and_then}
+use Rattle.versioning.specs.Machine.{State, Replica, Transaction, better, load, qualifies_at, course, replica, transaction, chosen, may_read, reading_checks, read_checks, found, read_reply, and_then}
 use Rattle.versioning.proofs.Checks.{all_passed, first_behind}
 use Rattle.versioning.proofs.Chosen.{chosen_right, one_chosen}
 use Rattle.cluster.specs.declared.cluster.Cluster.{Cluster}
