@@ -3,7 +3,7 @@ use Rattle.std.proofs.Common.{◌≡◌, ℕ, ◌<◌, ◌≤◌, Bool, true, co
 use Rattle.std.proofs.lemmas.Bool.{lt-ltb, le-ltb}
 use Rattle.catalogue.specs.declared.row.Row.{Row}
 use Rattle.catalogue.specs.Refusals.{first, unless_refused}
-use Rattle.catalogue.specs.Rows.{blank, place, place_checks, fetch_reply, put_after}
+use Rattle.catalogue.specs.Rows.{blank, place, place_checks, fetch_reply, put_reply, put_after}
 
 -- the number that the two checks come to
 abbrev checked : Bool → Bool → ℕ
@@ -21,6 +21,9 @@ module _ (t r : ℕ) where
 
   pub fetched_in : (rows : List Row) → t < 8 → r < 64 → fetch_reply rows t r ≡ (0, Some (get_or rows (place t r) blank))
   fetched_in rows h k = ap (λ n. unless_refused n (get_or rows (place t r) blank)) (passes h k)
+
+  pub put_told_in : t < 8 → r < 64 → put_reply t r ≡ (0, Some tt)
+  put_told_in h k = ap (λ n. unless_refused n tt) (passes h k)
 
   module _ (rows : List Row) (v : Row) where
     after : ℕ → List Row

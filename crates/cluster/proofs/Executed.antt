@@ -41,7 +41,7 @@ module _ (x : Transaction) (j : ℕ) (old : Row) (p : Progress) (there : j < len
   now = set x.progress j p
 
   progress_is : (i : ℕ) → progress_at now i ≡ updated j p (progress_at x.progress) i
-  progress_is i = updated_is x.progress j p (record { replaced = record { items = [] }; cost = 0 }) there i
+  progress_is i = updated_is x.progress j p (record { replaced = record { items = []; spare = [] }; cost = 0 }) there i
 
   -- what holds of the others, and of the one at j as it is now
   pub each_now : (P : Progress → Type 0) → P p → ((i : ℕ) → P (progress_at x.progress i)) → (i : ℕ) → P (progress_at now i)

@@ -1,3 +1,4 @@
+pub mod ShortLists
 pub mod Orderly
 pub mod Transactions
 pub mod Executing

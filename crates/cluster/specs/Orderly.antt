@@ -45,7 +45,7 @@ tally ops = count_writes ops + (sum_below 8 (λ t. bit (released t ops)) + bit (
 
 -- How far the replica j is; where there is none, it has executed nothing. And how many operations it has executed.
 abbrev pub progress_at : List Progress → ℕ → Progress
-progress_at ps j = slice_index_or ps j (record { replaced = record { items = [] }; cost = 0 })
+progress_at ps j = slice_index_or ps j (record { replaced = record { items = []; spare = [] }; cost = 0 })
 
 abbrev pub executed_at : List Progress → ℕ → ℕ
 executed_at ps j = length (progress_at ps j).replaced.items

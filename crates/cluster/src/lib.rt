@@ -3,4 +3,5 @@
 
 pub mod cluster;
 pub mod replica_index;
+mod short_list;
 pub mod transaction;

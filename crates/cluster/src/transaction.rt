@@ -3,8 +3,8 @@ ghost use Rattle.versioning.specs.Machine.{cost as cost_of};
 ghost use Rattle.versioning.specs.Words.{count_writes, ended as ended_by};
 ghost use Rattle.cluster.specs.Orderly.{orderly, tally, is_ended, executed_at, Spent};
 
+use crate::short_list::ShortList;
 use crate::transaction::progress::Progress;
-use arrayvec::ArrayVec;
 use catalogue::row::Row;
 use sequencing::mode::Mode;
 use sequencing::sequencer::Assigned;
@@ -31,13 +31,13 @@ pub enum Phase {
 // An unfinished transaction: what it declared, was assigned and asked, what it asked costs together, and how far each replica is with it.
 // It asks at most 25 operations: 16 writes, a release of each table, and an end. Its two lists over the tables are as declared and as begun: it
 // can be begun with any two.
-#[derive(Drop)]
+#[derive(Clone, Copy)]
 pub struct Transaction {
     number: u32,
     declared: [Mode; 8],
     assigned: [Assigned; 8],
     phase: Phase,
-    asked: ArrayVec<Operation, 25>,
+    asked: ShortList<Operation, 25>,
     cost: u32,
     progress: [Progress; 4],
     ghost phased: { ended_by asked.items ≡ is_ended phase },

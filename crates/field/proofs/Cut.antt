@@ -1,7 +1,7 @@
 -- A text's pieces.
-use Rattle.std.proofs.Common.{◌≡◌, ℕ, ◌+◌, ◌<◌, ◌≤◌, Bool, eqb, ltb, List, [], ◌∷◌, length, take, drop, Option, Some, None, position, refl, arith}
+use Rattle.std.proofs.Common.{◌≡◌, ℕ, ◌+◌, ◌<◌, ◌≤◌, Bool, eqb, ltb, List, [], ◌∷◌, length, take, drop, Option, Some, None, position, true, false, get_or, subst, sym, refl, arith}
 use Rattle.std.proofs.lemmas.List.Splits.{slice_split_none, slice_split_first, length-slice_split}
-use Rattle.std.proofs.lemmas.List.Sums.{fails_before_first}
+use Rattle.std.proofs.lemmas.List.Sums.{fails_before_first, position_or_len_is}
 use Rattle.std.proofs.lemmas.Bool.{cond_both, ltb-true, ltb-false}
 use Rattle.std.specs.List.{slice_split, position_or_len}
 use Rattle.field.specs.Pieces.{pieces}
@@ -17,6 +17,18 @@ cut_there p xs =
     cond_both (ltb at (length xs)) (Some at) None (Cut p xs)
     (λ found. let l = ltb-true at (length xs) found in (slice_split_first p xs 0 l, l))
     (λ none. slice_split_none p xs (λ k d l. fails_before_first p xs k d (omega (arith, ltb-false at (length xs) none))))
+
+-- where no mark stands before the place, and one stands there or it is the end
+module _ (p : ℕ → Bool) (xs : List ℕ) (i : ℕ) (before : (k : ℕ) → k < i → p (get_or xs k 0) ≡ false) where
+  pub cut_at : i < length xs → p (get_or xs i 0) ≡ true → Cut p xs (Some i)
+  cut_at l here =
+      let at : position_or_len p xs ≡ i = position_or_len_is p xs i 0 (omega arith) before (λ _. here) in
+      (subst (λ n. slice_split p xs ≡ take n xs ∷ slice_split p (drop (n + 1) xs)) at (slice_split_first p xs 0 (subst (λ n. n < length xs) (sym at) l)), l)
+
+  pub cut_nowhere : i ≡ length xs → Cut p xs None
+  cut_nowhere e =
+      let at : position_or_len p xs ≡ i = position_or_len_is p xs i 0 (omega arith) before (λ l. absurd (omega arith)) in
+      slice_split_none p xs (λ k d l. fails_before_first p xs k d (omega arith))
 
 -- there is always a first piece
 pub record SomeFirst (ps : List (List ℕ)) : Type 0 where

@@ -18,6 +18,8 @@ pub enum Field<'a> {
 impl<'a> From<&'a [u8]> for Field<'a> {
     ghost from_gives = { λ text field. shown field ≡ content_of text.now };
 
+    // Inlined: a line's seven fields are made one after the other, and a call for each costs more than a third of the time.
+    #[inline(always)]
     fn from(text: &'a [u8]) -> Field<'a> {
         if text.is_empty() {
             return Field::Empty;

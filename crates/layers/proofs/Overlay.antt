@@ -173,6 +173,9 @@ pub record Flushed (lines : List (Option Line)) (rows below : List Row) (k : ℕ
   pub shown : (q : ℕ) → q < 512 → q % 16 < k → get_or below q blank ≡ overlaid_row lines rows q
   pub kept : (q : ℕ) → q < 512 → k ≤ q % 16 → get_or below q blank ≡ get_or rows q blank
 
+pub flushed_none : (lines : List (Option Line)) (rows : List Row) → Flushed lines rows rows 0
+flushed_none lines rows = record { shown = λ q _ l. absurd (omega arith); kept = λ q _ _. refl }
+
 module _ (lines : List (Option Line)) (rows below : List Row) (k : ℕ) (line : k < 16) (full : length below ≡ 512) (so_far : Flushed lines rows below k) where
   abbrev after : List Row
   after = written_back k (get_or lines k None) below
@@ -185,6 +188,13 @@ module _ (lines : List (Option Line)) (rows below : List Row) (k : ℕ) (line : 
       written_there below full k line (get_or lines k None) q lt e
       ∙ ap (λ (r : Row). unwrap_or (row_of (get_or lines k None) q) r) (so_far.kept q lt (omega arith))
       ∙ ap (λ n. unwrap_or (row_of (get_or lines n None) q) (get_or rows q blank)) (sym e)
+
+  pub flushed_more : Flushed lines rows after (k + 1)
+  flushed_more =
+      record {
+        shown = λ q lt l. ⊎_elim (here q lt) (λ (ne : q % 16 ≢ k). let less : q % 16 < k = omega arith in elsewhere q ne ∙ so_far.shown q lt less) (cases_eq (q % 16) k);
+        kept = λ q lt l. let ne : q % 16 ≢ k = omega arith in elsewhere q ne ∙ so_far.kept q lt (omega arith);
+      }
 
 pub flushed_all : (lines : List (Option Line)) (rows below : List Row) (k : ℕ) → 16 ≤ k → length below ≡ 512 → Flushed lines rows below k → below ≡ overlaid lines rows
 flushed_all lines rows below k all full f =

@@ -142,9 +142,10 @@ impl ReportLine {
         ensures { OnOk result (text.new.items ≡ text.old.items ++ (line_text (fields_of self.now) ++ (10 ∷ []))) }
     {
         append_cell(text, Some(u64::from(self.line)))?;
-        for cell in self.cells() {
+        // Lent, since a walk over an array by value moves each element twice.
+        for cell in &self.cells() {
             text.push(b',')?;
-            append_cell(text, cell)?;
+            append_cell(text, *cell)?;
         }
         text.push(b'\n')?;
         Ok(())

@@ -15,8 +15,12 @@ pub(crate) fn requests(
 ) -> Result<Vec<Request<Counter, ()>>, AllocError>
     ensures { IfOk result (λ v. v.items ≡ requests_in (map told entries.now)) }
 {
-    entries
-        .iter()
-        .filter_map(|reading| reading.ok().map(Request::Call))
-        .collect(heap)
+    // Not by `collect`, which asks a second time for memory that it was refused, so that a want of memory would not always be told.
+    let mut requests = Vec::new(heap);
+    for reading in entries {
+        if let Ok(call) = *reading {
+            requests.push(Request::Call(call))?;
+        }
+    }
+    Ok(requests)
 }

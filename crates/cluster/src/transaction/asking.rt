@@ -8,7 +8,7 @@ ghost use Rattle.cluster.specs.Transactions.{course_of, transaction_of, begun_as
 use super::operations::{CLASSES, cost, count_writes};
 use super::progress::Progress;
 use super::{Phase, Transaction};
-use arrayvec::ArrayVec;
+use crate::short_list::ShortList;
 use catalogue::refusal::Refusal;
 use catalogue::table::Table;
 use sequencing::mode::Mode;
@@ -28,7 +28,7 @@ impl Transaction {
             declared,
             assigned,
             phase: Phase::Open,
-            asked: ArrayVec::new(),
+            asked: ShortList::new(Operation::Commit),
             cost: 0,
             progress: [
                 Progress::new(),

@@ -60,7 +60,7 @@ impl Transaction {
             replicas,
             replica,
             self.asked_at(n),
-            self.progress(replica).replaced[n],
+            self.progress(replica).replaced.as_slice()[n],
         );
     }
 

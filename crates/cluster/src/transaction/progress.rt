@@ -1,12 +1,13 @@
 ghost use Rattle.std.specs.Prelude.{◌≡◌, ◌+◌, ◌^◌, ◌<◌, [], ◌∷◌, ◌++◌, length};
 
-use arrayvec::ArrayVec;
+use super::BLANK;
+use crate::short_list::ShortList;
 use catalogue::row::Row;
 
 // How far a replica is with a transaction: the row that each operation executed there replaced, and what those operations cost together.
-#[derive(Drop)]
+#[derive(Clone, Copy)]
 pub struct Progress {
-    pub(super) replaced: ArrayVec<Row, 25>,
+    pub(super) replaced: ShortList<Row, 25>,
     pub(super) cost: u32,
 }
 
@@ -16,7 +17,7 @@ impl Progress {
         ensures cost { result.cost ≡ 0 }
     {
         Progress {
-            replaced: ArrayVec::new(),
+            replaced: ShortList::new(BLANK),
             cost: 0,
         }
     }

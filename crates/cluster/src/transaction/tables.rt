@@ -34,6 +34,8 @@ impl Transaction {
         requires { first ≤ length self.now.asked.items }
         ensures { result ≡ released table.number (take first self.now.asked.items) }
     {
-        self.asked[..first].iter().any(|o| releases(*o, table))
+        self.asked.as_slice()[..first]
+            .iter()
+            .any(|o| releases(*o, table))
     }
 }

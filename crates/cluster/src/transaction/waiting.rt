@@ -65,7 +65,7 @@ impl Transaction {
         ensures is { result ≡ slice_index_or self.now.asked.items n OperationOf.Commit }
         ensures range { InRange result }
     {
-        self.asked[n]
+        self.asked.as_slice()[n]
     }
 
     // Whether its next operation may be executed at the replica, as far as it alone decides.
@@ -88,7 +88,7 @@ impl Transaction {
         ensures are { result.now ≡ waiting_at (course_of self.now) replica.number }
         ensures few { length result.now ≤ 25 }
     {
-        &self.asked[self.executed(replica)..]
+        &self.asked.as_slice()[self.executed(replica)..]
     }
 
     // Whether a write of it to the table waits at the replica.

@@ -103,6 +103,8 @@ impl Sequencer {
         begun
     }
 
+    // Inlined: with its walks over the tables it is too long for the compiler to do so by itself, and a trace takes four times as long.
+    #[inline(always)]
     pub fn begin(&mut self, modes: &[Mode; 8]) -> Result<Begun, Refusal>
         ensures answer { told result ≡ begin_reply (counts_of self.old) modes.now }
         ensures after { counts_of self.new ≡ begin_after (counts_of self.old) modes.now }

@@ -116,9 +116,10 @@ impl NextOperation<'_> {
         requires { (t : ℕ) → RoomFor self.now t (slice_index versions.old t) }
         ensures { versions.new ≡ tables (λ t. version_after_at (course_of self.now.transaction.now) self.now.replica.number t (slice_index versions.old t)) }
     {
-        for table in Table::all() {
+        // Lent, since a walk over an array by value moves each element twice.
+        for table in &Table::all() {
             let t = table.index();
-            versions[t] = self.version_after(table, versions[t]);
+            versions[t] = self.version_after(*table, versions[t]);
         }
     }
 }

@@ -1,12 +1,10 @@
-use Rattle.std.proofs.Common.{◌≡◌, eqb, position, rules, tests}
-use Rattle.std.proofs.lemmas.Iterator.{YieldsList-from_slice}
-use Rattle.std.proofs.lemmas.Iterator.Search.{position_from_yields_List}
-use Rattle.field.proofs.Cut.{cut_there}
+use Rattle.std.proofs.Common.{eqb, get_or, arith}
+use Rattle.std.proofs.lemmas.Bool.{eq-eqb}
+use Rattle.field.proofs.Cut.{cut_at, cut_nowhere}
 use Rattle.field.proofs.pieces.position.Goals as goal
 
+pub returns-then-byte-mark : goal.returns-then-byte-mark
+returns-then-byte-mark c = cut_at (λ b. eqb b c.args.mark) c.args.text.now c.loop-i.i c.loop-i.invariant c.loop-i-test.true (eq-eqb (get_or c.args.text.now c.loop-i.i 0) c.args.mark c.if-byte-mark.true)
+
 pub returns : goal.returns
-returns c =
-    let text = c.args.text.now in
-    let first : c.position.result ≡ position (λ b. eqb b c.args.mark) text =
-    position_from_yields_List (λ b. eqb b c.args.mark) _ _ c.position.result c.position.ensures.ran (YieldsList-from_slice text c.iter.ensures.rest) (λ x b q k. search (rules, tests)) in
-    rw first (cut_there (λ b. eqb b c.args.mark) text)
+returns c = cut_nowhere (λ b. eqb b c.args.mark) c.args.text.now c.loop-i.i c.loop-i.invariant (omega arith)

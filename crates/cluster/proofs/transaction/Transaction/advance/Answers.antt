@@ -16,7 +16,7 @@ record-requires c =
     let x = c.args.self.now in
     let j = c.args.replica.number in
     let there : j < length x.progress = search rules in
-    let at = get_or_default x.progress j c.index-self-replica.result (record { replaced = record { items = [] }; cost = 0 }) there in
+    let at = get_or_default x.progress j c.index-self-replica.result (record { replaced = record { items = []; spare = [] }; cost = 0 }) there in
     record {
       room = omega (arith, ap (λ (p : Progress). length p.replaced.items) at, waits_below x j c.requires, most_asked x);
       fits = omega (arith, ap (λ (p : Progress). p.cost) at, left_is x j, all_most x, most_asked x, c.cost-price.ensures.most);
@@ -28,7 +28,7 @@ invariant_of-self c =
     let j = c.args.replica.number in
     let p = c.record.new.self in
     let there : j < length x.progress = search rules in
-    let at = get_or_default x.progress j c.index-self-replica.result (record { replaced = record { items = [] }; cost = 0 }) there in
+    let at = get_or_default x.progress j c.index-self-replica.result (record { replaced = record { items = []; spare = [] }; cost = 0 }) there in
     let more = c.record.ensures.replaced ∙ ap (λ (q : Progress). q.replaced.items ++ (c.args.old ∷ [])) at in
     let price : c.cost-price.result ≡ cost (next (course_of x) j) = c.cost-price.ensures.is ∙ ap cost c.operation.ensures.is in
     record {
@@ -47,7 +47,7 @@ returns c =
     let j = c.args.replica.number in
     let p = c.record.new.self in
     let there : j < length x.progress = search rules in
-    let at = get_or_default x.progress j c.index-self-replica.result (record { replaced = record { items = [] }; cost = 0 }) there in
+    let at = get_or_default x.progress j c.index-self-replica.result (record { replaced = record { items = []; spare = [] }; cost = 0 }) there in
     let more = c.record.ensures.replaced ∙ ap (λ (q : Progress). q.replaced.items ++ (c.args.old ∷ [])) at in
     ap₂ (λ (e : ℕ → ℕ) (r : ℕ → List (ℕ × Row)). record { number = x.number; assigned = x.assigned; course = record { declared = x.declared; asked = x.asked.items; executed = e }; replaced = r })
     (executed_now x j c.args.old p there more) (replaced_now x j c.args.old p there more)

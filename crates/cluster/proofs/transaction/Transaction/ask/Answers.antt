@@ -17,14 +17,14 @@ invariant_of-self c =
     let op = c.args.operation in
     let accepted : first (may_ask (course_of x) op) ≡ 0 = search rules in
     let phase : is_ended c.match-this.phase ≡ is_end op = search rules in
-    let items = sym c.push.ensures.items in
+    let items = sym c.push.ensures in
     record {
       phased = subst (λ (ops : List Operation). ended ops ≡ is_ended c.match-this.phase) items (phased_now x op accepted (is_ended c.match-this.phase) phase);
       allowed = subst (λ (ops : List Operation). orderly x.declared ops (length ops) ≡ true) items (orderly_now x op accepted);
       modest = subst (λ (ops : List Operation). count_writes ops ≤ 16) items (modest_now x op accepted);
       tallied = subst (λ (ops : List Operation). length ops ≤ tally ops) items (tallied_now x op accepted);
-      within = (λ j. omega (arith, x.within j, ap length c.push.ensures.items, length_push x.asked.items op));
-      summed = omega (arith, ap (sum_by cost) c.push.ensures.items, sum_by_push cost x.asked.items op, x.summed, c.cost.ensures.is);
+      within = (λ j. omega (arith, x.within j, ap length c.push.ensures, length_push x.asked.items op));
+      summed = omega (arith, ap (sum_by cost) c.push.ensures, sum_by_push cost x.asked.items op, x.summed, c.cost.ensures.is);
       spent = subst (Spent x.progress) items (spent_asked x op);
     }
 
@@ -42,6 +42,6 @@ returns c =
     record {
       answer = ap (λ n. unless_refused n tt) (sym accepted);
       after =
-          ap (λ (ops : List Operation). record { number = x.number; assigned = x.assigned; course = record { declared = x.declared; asked = ops; executed = executed_at x.progress }; replaced = λ j. replaced_rows ops (progress_at x.progress j).replaced.items (executed_at x.progress j) }) c.push.ensures.items
+          ap (λ (ops : List Operation). record { number = x.number; assigned = x.assigned; course = record { declared = x.declared; asked = ops; executed = executed_at x.progress }; replaced = λ j. replaced_rows ops (progress_at x.progress j).replaced.items (executed_at x.progress j) }) c.push.ensures
           ∙ after_now x op accepted;
     }

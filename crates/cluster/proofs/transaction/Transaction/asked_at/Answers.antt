@@ -7,5 +7,5 @@ use Rattle.cluster.proofs.transaction.Transaction.asked_at.Goals as goal
 pub returns : goal.returns
 returns c =
     let n = c.args.n in
-    let same = ap (λ (ops : List Operation). get_or ops n Operation.Commit) c.deref.ensures.0 in
+    let same = ap (λ (ops : List Operation). get_or ops n Operation.Commit) c.as_slice.ensures.is in
     record { is = same; range = subst InRange (sym same) (in_range c.args.self.now n c.requires) }
