@@ -28,7 +28,8 @@ impl Transaction {
             declared,
             assigned,
             phase: Phase::Open,
-            asked: ShortList::new(Operation::Commit),
+            // Aborts in the unused places: commits are all zeros, and a begin would set all of the transaction to zero, byte by byte.
+            asked: ShortList::new(Operation::Abort),
             cost: 0,
             progress: [
                 Progress::new(),
